@@ -255,7 +255,7 @@ def main(kind, path):
         made["adapters"] = adapters(kind, made["pairs"]["input"])
         made["warnings"] = WARNINGS[kind]
     elif kind == "none":
-        made["adapters"] = None
+        made.update(adapters=None, adapters_auto="none")
     with open(path, "w", encoding="utf-8") as file:
         json.dump(made, file, sort_keys=True, separators=(",", ":"))
         file.write("\n")

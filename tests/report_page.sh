@@ -122,7 +122,8 @@ apart 'tibzharuk sum: small.json: its adapters were removed in another way' "$ti
 apart 'tibzharuk sum: fault.json: its run stopped at a fault: input: .*' "$tibzharuk" sum fault.json fault.json
 
 row='the title of a page'
-"${page[@]}" --sample 'liver & 1' two.json | grep -qF '<h1>liver &amp; 1</h1>' || fail 'it is not the name that was given'
+"${page[@]}" --sample 'liver & 1' two.json > told || fail "status $?"
+grep -qF '<h1>liver &amp; 1</h1>' told || fail 'it is not the name that was given'
 grep -qF '<h1>two</h1>' two.html || fail 'it is not the name of the file'
 row='adapters that were removed before'
 "${page[@]}" --cutadapt='-a A<C -A GT' two.json > told || fail "status $?"

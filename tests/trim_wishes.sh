@@ -1,5 +1,7 @@
 #!/usr/bin/env bash
-# What `tibzharuk trim` does beside trimming: its report lists what it warned of.
+# What `tibzharuk trim` does beside trimming. Its report lists what it warned of. `--adapters auto`
+# takes the known adapters that the reads hold: what is made is the same as with their name, or as
+# without adapters. `--pairs` makes what a run over the first pairs makes.
 #
 # FQ_PROG names another build of the program.
 set -uo pipefail
@@ -84,5 +86,145 @@ made "tibzharuk: warning: 30 % $holds" -1 truseq_1.fq -2 truseq_2.fq --out out/s
 "$script" sum one.json out/s.json > sum.json || fail "status $?"
 mv sum.json out/s.json
 is warnings "[\"30 % $holds\"]"
+
+# same WORDS..: a run with these words makes the same files as the one that is in `out`, but for the
+# report and its page, which say how it was called
+same() {
+  rm -rf other
+  mv out other
+  made "$@"
+  rm out/s.json out/s.html other/s.json other/s.html
+  diff -r out other > difference || fail "$(cat difference)"
+}
+
+# auto LINE WORDS..: a run with --adapters auto says this of it
+auto() { made "tibzharuk: --adapters auto takes $1" "${@:2}" --out out/s --adapters auto "${steps[@]}"; }
+
+row='auto: adapters that reads hold'
+none='none: no known adapter is in more than 1 % of the first 200 pairs'
+if command -v cutadapt > /dev/null; then
+  for ending in fq fq.gz; do
+    auto 'truseq: 30 % of the first 200 pairs hold it' -1 "truseq_1.$ending" -2 "truseq_2.$ending"
+    is adapters_auto '"truseq"'
+    is warnings '[]'
+    grep -qF '<dt>taken by --adapters auto</dt><dd><code>truseq</code></dd>' out/s.html || fail 'the page does not say so'
+    cp out/s.json one.json
+    same '' -1 "truseq_1.$ending" -2 "truseq_2.$ending" --out out/s --adapters truseq "${steps[@]}"
+  done
+  row='auto: lanes'
+  auto 'nextera: 15 % of the first 400 pairs hold it' -1 plain_1.fq nextera_1.fq.gz -2 plain_2.fq.gz nextera_2.fq
+  is adapters_auto '"nextera"'
+  row='auto: an interleaved file'
+  paste -d '\n' <(paste - - - - < both_1.fq) <(paste - - - - < both_2.fq) | tr '\t' '\n' > both.fq
+  auto 'nextera: 15 % of the first 400 pairs hold it' -i both.fq
+  row='auto: none, but the reports of cutadapt are made'
+  auto "$none" -1 plain_1.fq -2 plain_2.fq --cutadapt-report out/cutadapt.json --cutadapt-log out/cutadapt.log
+  is adapters null
+  if [ ! -s out/cutadapt.json ] || ! grep -q 'Total read pairs processed: *200$' out/cutadapt.log; then fail 'they are not'; fi
+  row='auto: none, but a sequence is named too'
+  auto "$none" -1 plain_1.fq -2 plain_2.fq --adapters ACGTACGTACGT
+  same '' -1 plain_1.fq -2 plain_2.fq --out out/s --adapters ACGTACGTACGT "${steps[@]}"
+else
+  echo "trim_wishes: skipped: $row: cutadapt is not installed (apt-get install cutadapt)"
+fi
+
+row='auto: none'
+auto "$none" -1 plain_1.fq.gz -2 plain_2.fq
+is adapters_auto '"none"'
+is adapters null
+cp out/s.json none.json
+same '' -1 plain_1.fq.gz -2 plain_2.fq --out out/s "${steps[@]}"
+
+row='a sum of runs for which auto took others'
+sed 's/"adapters_auto":"none"/"adapters_auto":"truseq"/' none.json > taken.json
+"$script" sum none.json taken.json > sum.json 2> told
+[ $? -eq 1 ] || fail 'the status is not 1'
+[ "$(cat told)" = 'tibzharuk sum: taken.json: adapters_auto is truseq, not none' ] || fail "it says $(cat told)"
+
+# refused STATUS LINE WORDS..: nothing is made, and one line says why
+refused() {
+  trimmed "${@:3}" "${steps[@]}"
+  [ "$(cat status)" -eq "$1" ] || fail "status $(cat status), not $1"
+  [ "$(cat told)" = "tibzharuk: $2" ] || fail "it says '$(cat told)', not '$2'"
+  [ -z "$(ls -A out)" ] || fail "outputs: $(ls -A out)"
+}
+
+row='auto: a pipe'
+mkfifo pipe
+refused 2 '--adapters auto looks at the first pairs, but pipe is not a file: name the adapters' -1 plain_1.fq pipe -2 plain_2.fq plain_2.fq.gz \
+  --out out/s --adapters auto
+row='auto: records that are not of four lines'
+sed 's/^.\{20\}/&\n/' plain_1.fq > wrapped_1.fq
+refused 3 "--adapters auto: the first records of wrapped_1.fq, plain_2.fq aren't of four lines (seqtk seq makes it so)" -1 wrapped_1.fq -2 plain_2.fq \
+  --out out/s --adapters auto
+row='auto: a damaged file'
+head -c 500 truseq_1.fq.gz > cut_1.fq.gz
+trimmed -1 cut_1.fq.gz -2 truseq_2.fq --out out/s --adapters auto "${steps[@]}"
+[ "$(tail -n 1 told)" = 'tibzharuk: cannot read cut_1.fq.gz: unexpected end of file' ] || fail "it says $(cat told)"
+
+# The first 250 pairs of two lanes of 200 pairs.
+head -n 1000 both_1.fq > first_1.fq
+head -n 1000 both_2.fq > first_2.fq
+only='tibzharuk: warning: only the first pairs were trimmed (--pairs'
+hold="tibzharuk: warning: 15 % of the first 400 pairs hold an adapter that --adapters nextera removes"
+lanes=(-1 plain_1.fq.gz nextera_1.fq -2 plain_2.fq nextera_2.fq.gz)
+
+# first LINE WORDS..: a run over the first pairs, in `out`, makes the files of one over `first`, and
+# its report names how many there are
+first() {
+  made "$1" "${lanes[@]}" --out out/s "${@:2}" --pairs 250 "${steps[@]}"
+  is first_pairs 250
+  rm -rf other
+  mv out other
+  trimmed -1 first_1.fq -2 first_2.fq --out out/s "${@:2}" "${steps[@]}"
+  is first_pairs '"missing"'
+  rm out/s.json out/s.html other/s.json other/s.html
+  diff -r out other > difference || fail "$(cat difference)"
+}
+
+row='the first pairs of two lanes'
+first "$hold
+$only 250)"
+if command -v cutadapt > /dev/null; then
+  row='the first pairs, with adapters'
+  first "$only 250)" --adapters nextera
+fi
+row='the first pairs of wrapped records'
+sed '2~4s/^.\{20\}/&\n/; 4~4s/^.\{20\}/&\n/' both_1.fq > long_1.fq
+cp both_2.fq long_2.fq
+lanes=(-1 long_1.fq -2 long_2.fq)
+first "$only 250)"
+row='the first pairs of an interleaved file, and its page'
+paste -d '\n' <(paste - - - - < both_1.fq) <(paste - - - - < both_2.fq) | tr '\t' '\n' > both.fq
+lanes=(-i both.fq)
+first "$hold
+$only 250)"
+made "tibzharuk: warning: 30 % $holds
+$only 7)" -1 truseq_1.fq -2 truseq_2.fq --out out/s --pairs 7 "${steps[@]}"
+grep -qF '<p>30 % '"$holds"'</p><p>only the first pairs were trimmed (--pairs 7)</p>' out/s.html || fail 'the page does not begin with it'
+grep -qF 'Only the first 7 pairs were taken. Read pairs were trimmed' out/s.html || fail 'the text for the methods section does not say so'
+row='a sum of a run over the first pairs'
+"$script" sum out/s.json > sum.json 2> told
+[ $? -eq 1 ] || fail 'the status is not 1'
+[ "$(cat told)" = 'tibzharuk sum: out/s.json: its run took only the first pairs (--pairs)' ] || fail "it says $(cat told)"
+row='more pairs than there are'
+made '' -1 plain_1.fq.gz -2 plain_2.fq.gz --out out/s --pairs 201 "${steps[@]}"
+is first_pairs '"missing"'
+row='the first pairs, before a fault and after it'
+{
+  cat plain_1.fq
+  echo strange
+} > strange_1.fq
+trimmed -1 strange_1.fq -2 plain_2.fq --out out/s --pairs 200 "${steps[@]}"
+[ "$(cat status)" -eq 0 ] || fail "status $(cat status): $(cat told)"
+refused 3 'input: forward record 201: NoTitle: strange_1.fq: the record does not begin with @' -1 strange_1.fq -2 plain_2.fq --out out/s --pairs 201
+row='the first pairs of an endless pipe'
+mkfifo endless_1 endless_2
+for side in 1 2; do
+  while cat "plain_$side.fq"; do :; done > "endless_$side" 2> /dev/null &
+done
+made "$only 300)" -1 endless_1 -2 endless_2 --out out/s --pairs 300 "${steps[@]}"
+wait
+[ "$(gzip -dc out/s.r1.paired.fastq.gz | wc -l)" -eq 1200 ] || fail 'not 300 pairs'
 
 finish ok

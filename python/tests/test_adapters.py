@@ -6,7 +6,7 @@ import threading
 
 import pytest
 
-from tibzharuk.trim import adapters, fasta, known_adapters, report, whole_lines
+from tibzharuk.trim import adapters, arguments, fasta, known_adapters, report, whole_lines
 from tibzharuk.trim.faults import Fault
 
 READ = b"@r\nACGT\n+\nIIII\n"
@@ -82,6 +82,43 @@ class TestKnownAdapters(Files):
     def test_the_most_bytes_of_a_text(self, most, reads, monkeypatch):
         monkeypatch.setattr(known_adapters, "MOST_BYTES", most)
         assert known_adapters.first_reads(self.put("f", 9 * READ), 9) == reads * [b"ACGT"]
+
+    @pytest.mark.parametrize("number, wanted", (
+        (0, ("none", "no known adapter is in more than 1 % of the first 100 pairs")),
+        (1, ("none", "no known adapter is in more than 1 % of the first 100 pairs")),
+        (2, ("nextera", "2.0 % of the first 100 pairs hold it")), (100, ("nextera", "100 % of the first 100 pairs hold it")),
+    ))
+    def test_what_auto_takes(self, number, wanted):
+        held = READ.replace(b"ACGT", b"CTGTCTCTTATACACATCT").replace(b"IIII", 19 * b"I")
+        forward, reverse = self.put("f", 100 * READ), self.put("r", number * held + (100 - number) * READ)
+        assert known_adapters.taken_by_auto([[forward, reverse]]) == wanted
+
+    @pytest.mark.parametrize("data, status", ((b"@r\nAC\nGT\n+\nII\nII\n", 3), (b"x", 3), (None, 2)))
+    def test_what_auto_refuses(self, data, status):
+        name = self.put("f", data) if data else "/dev/null"
+        with pytest.raises(Fault) as caught:
+            known_adapters.taken_by_auto([[name, name]])
+        assert caught.value.status == status
+
+    def test_auto_without_reads(self):
+        name = self.put("f", b"\n")
+        assert known_adapters.taken_by_auto([[name, name]])[0] == "none"
+
+    @pytest.mark.parametrize("given, name, left, uses", (
+        ("auto", "truseq", ["truseq"], True), ("Auto", "none", [], False), ("auto ACGT", "none", ["ACGT"], True),
+        ("ACGT auto auto", "nextera", ["ACGT", "nextera"], True), ("truseq auto", "truseq", ["truseq"], True),
+    ))
+    def test_what_is_taken(self, given, name, left, uses):
+        got = arguments.Arguments([word for each in given.split() for word in ("--adapters", each)])
+        assert got.asks_auto() and got.uses_cutadapt()
+        got.take(name)
+        assert (got.adapters, got.adapters_auto, got.uses_cutadapt(), got.asks_auto()) == (left, name, uses, False)
+        assert got.names_adapters()
+
+    def test_reports_of_cutadapt_are_made_though_none_are_taken(self):
+        got = arguments.Arguments("--adapters auto --cutadapt-log x".split())
+        got.take("none")
+        assert got.uses_cutadapt() and not got.removes()
 
     def test_lanes(self):
         one, other = self.put("a", 3 * READ), self.put("b", 4 * READ)

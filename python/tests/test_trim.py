@@ -29,6 +29,8 @@ NEAR = " is not an option; did you mean {}? (tibzharuk trim --help)"
 REFUSED = (
     ("--level 0", "--level must be a number from 1 to 9, not 0"),
     ("--level=10", "--level must be a number from 1 to 9, not 10"),
+    ("--pairs 0", "--pairs must be a number from 1 to 1000000000000, not 0"),
+    ("--pairs 1k", "--pairs must be a number from 1 to 1000000000000, not 1k"),
     ("--compress-threads 65", "--compress-threads must be a number from 1 to 64, not 65"),
     ("-1", "-1 has no value (tibzharuk trim --help)"),
     ("--report=", "--report has no value (tibzharuk trim --help)"),
@@ -307,10 +309,20 @@ class TestReport(Pieces):
         assert got["outputs"] == wanted
         assert list(got) == ["adapters", "command", "inputs", "outputs", "pairs", "warnings"]
         assert (got["adapters"], got["warnings"]) == (None, [])
+        assert "first_pairs" not in got
         got = self.names(["-i", "\udcff.gz", "--trimlog", "log", "--interleaved", "-"] + unpaired)
         assert (got["command"], got["inputs"]) == ("IL", {"interleaved": "\ufffd.gz"})
         wanted = dict(zip(report.OUTPUTS, ("-", "u1", "-", "u2", "log")))
         assert got["outputs"] == wanted
+
+
+    @pytest.mark.parametrize("pairs, read, removed, wanted", (
+        ("9", 9, None, 9), ("10", 9, None, None), ("9", 9, 1, 9), ("9", 8, None, None)))
+    def test_first_pairs(self, pairs, read, removed, wanted):
+        counts = {"pairs": {"input": read - (removed or 0)}, "outputs": {}}
+        adapters = None if removed is None else {"pairs_read": read}
+        given = arguments.Arguments(["-i", "a", "--pairs", pairs])
+        assert json.loads(report.of_call(counts, given, adapters)).get("first_pairs") == wanted
 
 
 class TestFiles(Pieces):

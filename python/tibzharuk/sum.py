@@ -9,8 +9,9 @@ REPORTs, in their order, and has the warnings of all, each once. It names the
 outputs that are given here, or otherwise those of all REPORTs.
 
 The REPORTs must be of the same version, steps and settings, and of runs that
-read their inputs to the end. Otherwise nothing is printed, and one line on
-standard error says why, with status 1. Unknown arguments end with status 2.
+read their inputs to the end, without --pairs. Otherwise nothing is printed, and
+one line on standard error says why, with status 1. Unknown arguments end with
+status 2.
 """
 
 import argparse
@@ -38,8 +39,8 @@ OUTPUTS = {
     "unpaired2": "reverse_unpaired",
     "trimlog": "trim_log",
 }
-# What must be the same in all reports. `schema` isn't in the first form of a report.
-SAME = ("schema", "program", "version", "command", "encoding", "name_check")
+# What must be the same in all reports. Some have no `schema`, and some no `adapters_auto`.
+SAME = ("schema", "program", "version", "command", "encoding", "name_check", "adapters_auto")
 ADDED = (
     "adapters", "inputs", "outputs", "outcome", "fault", "pairs", "reads", "steps", "warnings")
 SUMMARY = {
@@ -55,6 +56,8 @@ def must_match(path: str, report: Report, first: Report) -> None:
     """Refuses a report that isn't of a whole run with the settings of the first."""
     if report["outcome"] != "finished":
         raise Refused(f"{path}: its run stopped at a fault: {report['fault']}")
+    if "first_pairs" in report:
+        raise Refused(f"{path}: its run took only the first pairs (--pairs)")
     for name in SAME:
         found, wanted = (each.get(name, "missing") for each in (report, first))
         if found != wanted:

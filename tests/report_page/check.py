@@ -296,7 +296,9 @@ def check_numbers(page, report):
 
 def check_adapters(page, report):
     adapters, text = report.get("adapters"), page.text()
-    assert ("adapter" in text) == (adapters is not None), "adapters"
+    taken = report.get("adapters_auto")
+    assert ("adapter" in text) == (adapters is not None or taken is not None), "adapters"
+    assert taken is None or f"taken by --adapters auto {taken}" in text, taken
     if adapters is None:
         return
     how = f"cutadapt {adapters['version']} ({shlex.join(adapters['options'])})"

@@ -47,7 +47,7 @@ inputs:
       inputBinding: {prefix: "-2"}
     inputBinding: {position: 2}
   adapters:
-    doc: 3' adapters, which cutadapt removes first; truseq, nextera, smallrna, a FASTA file, or SEQUENCE[,SEQUENCE]
+    doc: 3' adapters, which cutadapt removes first; truseq, nextera, smallrna, auto, a FASTA file, or SEQUENCE[,SEQUENCE]
     type: ["null", File, string]
     inputBinding: {prefix: --adapters, position: 4}
   encoding:

@@ -180,7 +180,13 @@ REPORT = fields(
         "reads": fields({side: SIDE for side in SIDES}),
         "steps": each(fields({"step": text, "forward": DONE, "reverse": DONE})),
     },
-    {"schema": count, "adapters": or_null(ADAPTERS), "warnings": each(text)},
+    {
+        "schema": count,
+        "adapters": or_null(ADAPTERS),
+        "adapters_auto": text,
+        "first_pairs": count,
+        "warnings": each(text),
+    },
 )
 
 

@@ -182,6 +182,8 @@ def methods(report: Report, adapters: str) -> str:
     checked = "were checked" if report["name_check"] else "were not checked"
     kept, pairs = report["pairs"]["both_surviving"], report["pairs"]["input"]
     removed = f"Adapters were removed with {adapters}. " if adapters else ""
+    if "first_pairs" in report:
+        removed = f"Only the first {report['first_pairs']:,} pairs were taken. {removed}"
     program = f"{report['program']} {report['version']}"
     return (
         f"{removed}Read pairs were trimmed with Tibzharuk ({program}) with the steps {steps}. "
@@ -201,6 +203,8 @@ def run_entries(report: Report, adapters: str) -> List[Entry]:
     ]
     if adapters:
         entries.append(("adapters", [adapters]))
+    if "adapters_auto" in report:
+        entries.append(("taken by --adapters auto", [report["adapters_auto"]]))
     for part in "inputs", "outputs":
         for name, value in report[part].items():
             files = value if isinstance(value, list) else [value] if value is not None else []

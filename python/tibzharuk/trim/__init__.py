@@ -17,6 +17,8 @@
     known_adapters, illumina_adapters.fa
                 adapters that have a name here, and whether reads hold them
     whole_lines a program that copies the text of a lane as cutadapt takes it
+    first_records
+                a program that copies the first records of a text, for --pairs
     report      the report, with the names of the user's files, and its page
     faults      how a run ends that can't go on
 """

@@ -7,12 +7,13 @@ import shlex
 from typing import Any, Callable, Dict, List, NoReturn, Optional, Sequence, Tuple
 
 from .faults import Fault
+from .known_adapters import AUTO, NONE
 from .steps import CLIP, WITHOUT, is_step, name_of
 from .tools import COMPRESSORS, DECOMPRESSORS
 
 READS = ("paired1", "unpaired1", "paired2", "unpaired2")
-ROLES = READS + (
-    "interleaved", "trimlog", "report", "html", "cutadapt-report", "cutadapt-log", "summary")
+CUTADAPT_ROLES = ("cutadapt-report", "cutadapt-log")
+ROLES = READS + ("interleaved", "trimlog", "report", "html", *CUTADAPT_ROLES, "summary")
 # What follows the prefix of --out. The workflow has the same names.
 ENDINGS = {
     "paired1": ".r1.paired.fastq.gz",
@@ -37,6 +38,7 @@ REFUSED_NAMES = (
 )
 LETTERS_WITHOUT_VALUE = "NZz"    # of cutadapt: another option may follow in the same word
 PASSED_NUMBERS = {"block": 65536, "depth": 64, "chunk": 1048576}   # and the most of each
+MOST_PAIRS = 10 ** 12
 HELP = "(tibzharuk trim --help)"
 
 
@@ -47,7 +49,7 @@ class HelpAsked(Exception):
 def number_to(option: str, most: int) -> Callable[[str], int]:
     """A reader of numbers from 1 to `most`."""
     def read(text: str) -> int:
-        if not re.match("[1-9][0-9]?$", text) or int(text) > most:
+        if not re.match("[1-9][0-9]*$", text) or int(text) > most:
             raise Fault(1, f"{option} must be a number from 1 to {most}, not {text}")
         return int(text)
     return read
@@ -149,6 +151,7 @@ class Parser(argparse.ArgumentParser):
         self.add_once("--threads", "-t", type=passed_number("--threads", 64))
         self.add_once("--compressor", type=one_of("--compressor", compressors), default="auto")
         self.add_once("--level", type=number_to("--level", 9))
+        self.add_once("--pairs", type=number_to("--pairs", MOST_PAIRS))
         self.add_once("--compress-threads", type=number_to("--compress-threads", 64))
         self.add_once(
             "--decompressor", type=one_of("--decompressor", decompressors), default="auto")
@@ -251,7 +254,9 @@ class Arguments:
         self.threads: Optional[str] = found.threads
         self.compress_threads: Optional[int] = found.compress_threads
         self.level: Optional[int] = found.level
+        self.pairs: Optional[int] = found.pairs     # None: all
         self.adapters: List[str] = found.adapters
+        self.adapters_auto: Optional[str] = None    # what --adapters auto took
         self.cutadapt: Optional[List[str]] = found.cutadapt
         self.through: Optional[str] = found.through
         self.poly_g = bool(found.poly_g)
@@ -288,7 +293,7 @@ class Arguments:
                 raise Fault(1, "--interleaved sets --block itself")
         if self.through and self.outputs.get("interleaved", ".gz").lower().endswith(".gz"):
             raise Fault(1, "--through needs --interleaved, whose name doesn't end in .gz")
-        for role in ("cutadapt-report", "cutadapt-log"):
+        for role in CUTADAPT_ROLES:
             if role in self.outputs and not self.uses_cutadapt():
                 raise Fault(1, f"--{role} without --adapters or --cutadapt")
 
@@ -300,13 +305,28 @@ class Arguments:
     def outputs_in_order(self) -> List[Tuple[str, str]]:
         return [(role, self.outputs[role]) for role in ROLES if role in self.outputs]
 
-    def uses_cutadapt(self) -> bool:
+    def asks_auto(self) -> bool:
+        return AUTO in map(str.lower, self.adapters)
+
+    def take(self, name: str) -> None:
+        """Puts the name of known adapters, or nothing, in the place of --adapters auto."""
+        self.adapters_auto = name
+        named = [name if each.lower() == AUTO else each for each in self.adapters]
+        self.adapters = [each for each in dict.fromkeys(named) if each != NONE]
+
+    def removes(self) -> bool:
+        """Whether cutadapt has anything to remove."""
         return bool(self.adapters or self.cutadapt or self.poly_g)
 
+    def uses_cutadapt(self) -> bool:
+        """If `auto` took none, cutadapt runs only for what it counts and prints."""
+        return self.removes() or bool(self.adapters_auto) and any(
+            role in self.outputs for role in CUTADAPT_ROLES)
+
     def names_adapters(self) -> bool:
-        """Whether adapters are named, also in options of cutadapt."""
+        """Whether adapters are named, also in options of cutadapt, or were looked for."""
         words = self.cutadapt or []
-        return bool(self.adapters) or any(
+        return bool(self.adapters or self.adapters_auto) or any(
             is_option(word, ADAPTER_LETTERS, ADAPTER_NAMES) for word in words)
 
     def inputs(self) -> List[str]:

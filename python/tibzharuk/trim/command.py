@@ -31,7 +31,9 @@ DESCRIPTION
     With --adapters, --poly-g or --cutadapt, cutadapt trims first, in the same
     pass. fq_prog then counts and trims what cutadapt passed on. If no adapters
     are named, but more than 1 % of the first 10,000 pairs hold a known one, a
-    warning says so.
+    warning says so. With --adapters auto that one is removed. A line on
+    standard error and the report say which, or none. A pipe can't be looked at
+    beforehand, so auto refuses it.
 
     The summary goes to standard output, only at status 0. If an output is on
     standard output, the summary goes to standard error, or only to the file
@@ -70,10 +72,10 @@ OPTIONS
     Defaults are in parentheses.
 
     --adapters WHAT        3' adapters: truseq, nextera or smallrna, as Illumina
-                           publishes them; a FASTA file for both sides; one
-                           SEQUENCE for both; or SEQUENCE,SEQUENCE for the
-                           forward and the reverse side. Given again, it adds
-                           others
+                           publishes them; auto, which takes one of these; a
+                           FASTA file for both sides; one SEQUENCE for both; or
+                           SEQUENCE,SEQUENCE for the forward and the reverse
+                           side. Given again, it adds others
     --poly-g               trim the ends of reads by quality 20, as if each G
                            there were poor: for machines of two colours
                            (--nextseq-trim=20 of cutadapt)
@@ -82,6 +84,8 @@ OPTIONS
     --cutadapt-log OUT     what cutadapt printed, which MultiQC reads
     --need-end             refuse a file whose BGZF lacks its end block, since
                            it may be cut (a warning)
+    --pairs N              trim only the first N pairs of all lanes together,
+                           to try settings. The report and a warning say so
     -t N, --threads N      threads, 1 to 64 (as many as there are processors)
     --compressor NAME      bgzip, pigz, gzip or igzip (auto: the first of bgzip,
                            pigz and gzip that is installed)

@@ -22,6 +22,9 @@ AFTER_LINE_FEED = ["sh", "-c", 'echo; exec "$@"', "sh"]
 # cutadapt takes no empty line, and no last line without a line feed.
 WHOLE_LINES = [sys.executable or "python3", "-IS",
                os.path.join(os.path.dirname(os.path.abspath(__file__)), "whole_lines.py")]
+# The first records of a text, whose number follows.
+FIRST_RECORDS = [*WHOLE_LINES[:-1],
+                 os.path.join(os.path.dirname(os.path.abspath(__file__)), "first_records.py")]
 STDOUT_NAMES = ("-", "/dev/stdout", "/dev/fd/1", "/proc/self/fd/1")
 STDERR_NAMES = ("/dev/stderr", "/dev/fd/2", "/proc/self/fd/2")
 # Under these names a reader expects a format that isn't written.
@@ -190,11 +193,16 @@ class Side:
         self.names = list(files)
         self.inputs = [Input(file) for file in files]
         self.place = 0                      # which input is read now
+        self.left: Optional[int] = None     # how many records are still to be read; None: all
         self.fault: Optional[Fault] = None  # why its text is incomplete
         self.is_whole = False               # whether its text was read to its end
 
     def current(self) -> Input:
         return self.inputs[self.place]
+
+    def has_more(self) -> bool:
+        """Whether another lane is to be read."""
+        return self.place + 1 < len(self.inputs) and self.left != 0
 
     def files(self) -> str:
         return " ".join(self.names)

@@ -7,6 +7,7 @@ import zlib
 from typing import Dict, Iterator, List, NamedTuple, Optional, Sequence, Tuple
 
 from .fasta import read_fasta
+from .faults import Fault
 
 # Illumina Adapter Sequences, document 1000000002694.
 FILE = os.path.join(os.path.dirname(os.path.abspath(__file__)), "illumina_adapters.fa")
@@ -16,6 +17,7 @@ MOST_BYTES = 1 << 24    # of the text of a file
 MOST_PERCENT = 1
 # So many bases of an adapter are looked for. By chance they are in one of 100,000 reads of 150.
 BASES = 12
+AUTO, NONE = "auto", "none"     # what --adapters is given, and what it takes if reads hold none
 PIECE = 1 << 16
 Pairs = List[Tuple[bytes, bytes]]       # the bases of both mates
 Lanes = Sequence[Sequence[str]]         # the files of each lane: one that is interleaved, or two
@@ -71,7 +73,7 @@ def first_text(name: str, lines: int) -> bytes:
             if left <= 0 or len(text) >= MOST_BYTES:
                 break
         else:
-            text += b"\n"   # a last line needs none
+            text += b"\n" if text else b""  # a last line needs none
     return bytes(text[:MOST_BYTES])
 
 
@@ -156,6 +158,23 @@ def word_on_adapters(lanes: Lanes) -> Optional[str]:
         return None
     return (f"{share} of the first {share.pairs:,} pairs hold an adapter that "
             f"--adapters {share.name} removes")
+
+
+def taken_by_auto(lanes: Lanes) -> Tuple[str, str]:
+    """The known adapters that many of the first pairs hold, or NONE, and why."""
+    for name in itertools.chain(*lanes):
+        if not os.path.isfile(name):
+            raise Fault(2, f"--adapters {AUTO} looks at the first pairs, but {name} is not a file: "
+                           "name the adapters")
+    pairs = first_pairs(lanes)
+    if not pairs and all(first_text(name, 1) for name in lanes[0]):
+        raise Fault(3, f"--adapters {AUTO}: the first records of {', '.join(lanes[0])} aren't of "
+                       "four lines (seqtk seq makes it so)")
+    share = largest_share(pairs)
+    if share.is_large():
+        return share.name, f"{share} of the first {share.pairs:,} pairs hold it"
+    return NONE, (f"no known adapter is in more than {MOST_PERCENT} % of the first "
+                  f"{share.pairs:,} pairs")
 
 
 def are_files(names: Sequence[str]) -> bool:

@@ -6,7 +6,7 @@ import shlex
 from typing import Dict, List, NamedTuple, Optional, Sequence, Tuple, Union
 
 from .arguments import READS, Arguments
-from .files import AFTER_LINE_FEED, FROM_PIPE, WHOLE_LINES, Output, Side
+from .files import AFTER_LINE_FEED, FIRST_RECORDS, FROM_PIPE, WHOLE_LINES, Output, Side
 from .tools import Tools
 
 # Outputs that this process writes. The program or a compressor writes the others.
@@ -107,6 +107,8 @@ def lane(side: Side, place: int, decompressor: str, is_for_cutadapt: bool) -> St
     words = each.command(decompressor)
     if each.size is None:
         words = FROM_PIPE + [each.name] + words
+    if side.left is not None:
+        words = FIRST_RECORDS + [str(side.left)] + words
     if is_for_cutadapt:
         words = WHOLE_LINES + words
     elif place:

@@ -38,6 +38,12 @@ def counts_of(data: bytes) -> Dict[str, Any]:
         raise Fault(4, "no report")
 
 
+def pairs_read(counts: Dict[str, Any], adapters: Optional[Dict[str, Any]]) -> int:
+    """How many pairs were taken from the inputs."""
+    found: int = adapters["pairs_read"] if adapters else counts["pairs"]["input"]
+    return found
+
+
 def of_call(counts: Dict[str, Any], arguments: Arguments,
             adapters: Optional[Dict[str, Any]]) -> bytes:
     """The program's report as that of the user's call, with what cutadapt removed before, and what
@@ -45,6 +51,10 @@ def of_call(counts: Dict[str, Any], arguments: Arguments,
     import json
     told = [readable(text) for text in warned]
     report: Dict[str, Any] = {"adapters": adapters, "warnings": told, **counts}
+    if arguments.adapters_auto:
+        report["adapters_auto"] = arguments.adapters_auto
+    if arguments.pairs and arguments.pairs == pairs_read(counts, adapters):
+        report["first_pairs"] = arguments.pairs
     if arguments.both:
         report["command"] = "IL"
         report["inputs"] = {"interleaved": one_or_all(arguments.both)}

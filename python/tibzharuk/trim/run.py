@@ -13,8 +13,9 @@ from .checks import check_interleaved, check_lanes, no_end
 from .children import Ended, Family, Pipes
 from .cutadapt import KEEPS_BUFFERS, Cutadapt
 from .faults import Fault, Stopped, reason, say, signal_name, warn, write_all
+from .first_records import copied
 from .files import Output, Side, check_inputs, give_names, readable, take_names_back
-from .known_adapters import word_on_adapters, word_on_scores
+from .known_adapters import taken_by_auto, word_on_adapters, word_on_scores
 from .plan import (COUNTED, CUTADAPT_COUNTED, CUTADAPT_PRINTED, KEPT, PRINTED, TRIMMED, End, Lane,
                    Made, Start, Stream, Word, lane, plan, shown)
 from .progress import Progress
@@ -33,13 +34,16 @@ class Run:
         self.arguments = arguments
         self.tools = Tools(arguments)
         self.sample = sample_name(arguments.outputs)
-        self.cutadapt: Optional[Cutadapt] = None
-        if arguments.uses_cutadapt():
-            self.cutadapt = Cutadapt(arguments, self.sample)
         self.sides: List[Side] = []
         self.outputs: Dict[str, Output] = {}    # by their roles
         self.look_at_files()
-        inputs = [each for side in self.sides for each in side.inputs]
+        if arguments.asks_auto():
+            self.take_adapters()
+        self.cutadapt: Optional[Cutadapt] = None
+        if arguments.uses_cutadapt():
+            self.cutadapt = Cutadapt(arguments, self.sample)
+        # How far the last pairs of --pairs are isn't known.
+        inputs = [] if arguments.pairs else [each for side in self.sides for each in side.inputs]
         self.progress = Progress(arguments.progress, inputs)
         # How the program and cutadapt ended, by their roles.
         self.ends: Dict[str, Ended] = {}
@@ -83,6 +87,8 @@ class Run:
         self.sides = [Side("forward", arguments.both or arguments.forward)]
         if not arguments.both:
             self.sides.append(Side("reverse", arguments.reverse))
+        for side in self.sides if arguments.pairs else ():
+            side.left = (arguments.pairs or 0) * (2 if arguments.both else 1)
         for role, name in arguments.outputs_in_order():
             output = Output(role, name)
             output.check(arguments.files_that_are_read(), self.outputs.values())
@@ -94,6 +100,16 @@ class Run:
         if arguments.checks_names:
             check_lanes(arguments.forward, arguments.reverse)
             check_interleaved(arguments.both)
+
+    def lanes(self) -> List[Tuple[str, ...]]:
+        return list(zip(*(side.names for side in self.sides)))
+
+    def take_adapters(self) -> None:
+        """Does what --adapters auto asks for, and says which adapters it took."""
+        name, why = taken_by_auto(self.lanes())
+        self.arguments.take(name)
+        self.tools = Tools(self.arguments)  # how hard to compress depends on whether cutadapt runs
+        say(f"--adapters auto takes {name}: {why}")
 
     def plan(self) -> List[Start]:
         options = self.cutadapt.options if self.cutadapt else None
@@ -162,7 +178,7 @@ class Run:
     def look_at_reads(self) -> None:
         """Says if the first pairs hold known adapters, but none are named, or if their scores are
         those of another encoding. The children work meanwhile."""
-        lanes = list(zip(*(side.names for side in self.sides)))
+        lanes = self.lanes()
         words = [] if self.arguments.names_adapters() else [word_on_adapters(lanes)]
         words += [] if self.arguments.encoding else [word_on_scores(lanes[0])]
         for word in words:
@@ -180,7 +196,9 @@ class Run:
 
     def note_end(self, role: str, end: Ended) -> None:
         side = next((side for side in self.sides if side.name == role), None)
-        if side and end.status == 0 and side.place + 1 < len(side.inputs):
+        if side and side.left is not None:
+            side.left -= copied(end.said)
+        if side and end.status == 0 and side.has_more():
             self.end_lane(side, end)
             side.place += 1
             side.current().open()
@@ -257,6 +275,12 @@ class Run:
         found = re.match(rb"Input Read Pairs: (\d+)", self.pipes.text(PRINTED))
         return int(found.group(1)) if found else None
 
+    def pairs_read(self) -> Optional[int]:
+        """How many pairs were taken from the inputs."""
+        if self.cutadapt:
+            return int(self.cutadapt.counted()["read_counts"]["input"])
+        return self.pairs_taken()
+
     def read_on(self) -> None:
         """Decompresses the files for some seconds more after a fault in a text."""
         until = time.monotonic() + SECONDS_TO_READ_ON
@@ -304,6 +328,8 @@ class Run:
         for name in self.arguments.inputs():
             if name in self.without_end:
                 no_end(name, self.arguments.needs_end)
+        if self.arguments.pairs and self.arguments.pairs == self.pairs_read():
+            warn(f"only the first pairs were trimmed (--pairs {self.arguments.pairs})")
         if self.cutadapt and self.cutadapt.removed_all():
             warn("cutadapt removed all pairs")
         elif self.pairs_taken() == 0:
@@ -334,7 +360,8 @@ class Run:
         """What this process writes, by its role."""
         texts = {"summary": self.summary()[1]}
         if "report" in self.outputs or "html" in self.outputs:
-            adapters = self.cutadapt.summary() if self.cutadapt else None
+            is_used = self.cutadapt and self.arguments.removes()
+            adapters = self.cutadapt.summary() if self.cutadapt and is_used else None
             counts = counts_of(self.pipes.text(COUNTED))
             texts["report"] = of_call(counts, self.arguments, adapters)
         if "html" in self.outputs:

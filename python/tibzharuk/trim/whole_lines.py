@@ -15,7 +15,7 @@ import re
 import signal
 import subprocess
 import sys
-from typing import List
+from typing import Sequence
 
 if not __package__:  # a program of its own
     HERE = os.path.dirname(os.path.abspath(__file__))
@@ -86,29 +86,40 @@ def copy(source: int) -> bool:
         buffer[:held] = bytes(buffer[end - held:end])
 
 
-def main(command: List[str]) -> int:
-    """Returns the status."""
-    signal.signal(signal.SIGPIPE, signal.SIG_DFL)
-    if not command:
-        return 0 if copy(0) else 1
+def started(command: Sequence[str]) -> "subprocess.Popen[bytes]":
+    """The command, whose standard output is a pipe to this process. If it can't be started, this
+    process ends with status 127 and a line."""
     first = way_to_end_with_us()
     try:
         child = subprocess.Popen(command, stdout=subprocess.PIPE, preexec_fn=first)
     except OSError as error:
         print(f"cannot start {command[0]}: {error.strerror}", file=sys.stderr)
-        return 127
+        sys.exit(127)
     assert child.stdout
-    source = child.stdout.fileno()
     with contextlib.suppress(OSError):
-        fcntl.fcntl(source, F_SETPIPE_SZ, PIECE)
-    if not copy(source):
-        return 1
-    status = child.wait()
+        fcntl.fcntl(child.stdout.fileno(), F_SETPIPE_SZ, PIECE)
+    return child
+
+
+def end_as(status: int) -> int:
+    """Returns the status of the command, or ends this process by the signal that ended it."""
     if status < 0:
         if -status != signal.SIGKILL:
             signal.signal(-status, signal.SIG_DFL)
         os.kill(os.getpid(), -status)
     return status
+
+
+def main(command: Sequence[str]) -> int:
+    """Returns the status."""
+    signal.signal(signal.SIGPIPE, signal.SIG_DFL)
+    if not command:
+        return 0 if copy(0) else 1
+    child = started(command)
+    assert child.stdout
+    if not copy(child.stdout.fileno()):
+        return 1
+    return end_as(child.wait())
 
 
 if __name__ == "__main__":
