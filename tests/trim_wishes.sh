@@ -1,7 +1,8 @@
 #!/usr/bin/env bash
 # What `tibzharuk trim` does beside trimming. Its report lists what it warned of. `--adapters auto`
 # takes the known adapters that the reads hold: what is made is the same as with their name, or as
-# without adapters. `--pairs` makes what a run over the first pairs makes.
+# without adapters. `--pairs` makes what a run over the first pairs makes. `--checksums` makes a file
+# that `sha256sum -c` finds right. Steps need no `--` before them.
 #
 # FQ_PROG names another build of the program.
 set -uo pipefail
@@ -226,5 +227,61 @@ done
 made "$only 300)" -1 endless_1 -2 endless_2 --out out/s --pairs 300 "${steps[@]}"
 wait
 [ "$(gzip -dc out/s.r1.paired.fastq.gz | wc -l)" -eq 1200 ] || fail 'not 300 pairs'
+
+# summed DIRECTORY: sha256sum finds all files of the checksums right, from the directory of their file
+summed() {
+  (cd "$1" && sha256sum -c --strict --quiet s.sha256) > difference 2>&1 || fail "$(cat difference)"
+}
+
+# names_in FILE: the names that have a checksum
+names_in() { cut -c 67- "$1" | paste -sd' '; }
+
+row='checksums'
+made '' -1 plain_1.fq.gz -2 plain_2.fq --out out/s --checksums "${steps[@]}"
+summed out
+[ "$(names_in out/s.sha256)" = 's.r1.paired.fastq.gz s.r1.unpaired.fastq.gz s.r2.paired.fastq.gz s.r2.unpaired.fastq.gz s.json s.html' ] ||
+  fail "it has $(names_in out/s.sha256)"
+row='checksums of outputs in other directories, with names that are escaped, and over an earlier file'
+mkdir -p far/away
+ln -sfn far/away link
+echo earlier > far/away/s.sha256
+made '' -1 plain_1.fq.gz -2 plain_2.fq --out link/s --checksums --no-unpaired --no-report --summary 'out/a  b' --trimlog $'out/a\\\n b' "${steps[@]}"
+summed far/away
+summed link
+[ "$(grep -c 'fastq.gz$' link/s.sha256) $(wc -l < link/s.sha256)" = '2 4' ] || fail "it has $(cat link/s.sha256)"
+row='checksums of what is no stream'
+made 'Input Read Pairs: 200
+Both Surviving: 200
+Forward Only Surviving: 0
+Reverse Only Surviving: 0
+Dropped: 0' -1 plain_1.fq -2 plain_2.fq --out out/s --checksums --interleaved - --no-unpaired MINLEN:1
+summed out
+[ "$(names_in out/s.sha256)" = 's.json s.html' ] || fail "it has $(names_in out/s.sha256)"
+
+row='checksums that are refused'
+refused 1 '--checksums writes PREFIX.sha256, so it needs --out PREFIX' -1 plain_1.fq -2 plain_2.fq --paired1 out/p1 --paired2 out/p2 --no-unpaired \
+  --checksums
+refused 1 '--checksums: no output is a file' -1 plain_1.fq -2 plain_2.fq --out out/s --interleaved - --no-unpaired --no-report --checksums
+refused 2 'out/s.sha256 is given for two outputs' -1 plain_1.fq -2 plain_2.fq --out out/s --checksums --summary out/s.sha256
+row='checksums of a run that fails'
+echo earlier > earlier
+ln link/s.sha256 kept
+refused 3 'cannot read cut_1.fq.gz: unexpected end of file' -1 cut_1.fq.gz -2 plain_2.fq --out out/s --checksums
+trimmed -1 cut_1.fq.gz -2 plain_2.fq --out link/s --checksums "${steps[@]}"
+[ link/s.sha256 -ef kept ] || fail 'the earlier file is gone'
+
+row='steps without --, and a file that is named like one'
+cp plain_1.fq MINLEN:36
+cp plain_2.fq LEADING:3
+made '' -1 ./MINLEN:36 -2 ./LEADING:3 --out out/s LEADING:3 TRAILING:3 MINLEN:36
+same '' -1 plain_1.fq -2 plain_2.fq --out out/s -- LEADING:3 TRAILING:3 MINLEN:36
+same '' -2 ./LEADING:3 --out out/s -1 ./MINLEN:36 -- LEADING:3 TRAILING:3 MINLEN:36
+row='steps without --, that are wrong'
+steps=(LEADNG:3)
+refused 2 'bad step: LEADNG:3' -1 plain_1.fq -2 plain_2.fq --out out/s
+steps=(MINLEN:36 --sync)
+refused 1 '--sync comes after the steps; options come before them (tibzharuk trim --help)' -1 plain_1.fq -2 plain_2.fq --out out/s
+steps=(minlen:36)
+refused 1 'minlen:36 is not an option; steps are words such as MINLEN:36 (tibzharuk trim --help)' -1 plain_1.fq -2 plain_2.fq --out out/s --sync
 
 finish ok

@@ -114,9 +114,9 @@ same_as_direct() {
   done
 }
 
-# counted REPORT: a report without the names of its files, and without the field by which tibzharuk trim says
-# that no adapters were looked for
-counted() { sed 's/^{"adapters":null,/{/; s/"inputs":{[^}]*}//; s/"outputs":{[^}]*}//' "$1"; }
+# counted REPORT: a report without the names of its files, and without the field by which
+# tibzharuk trim says that no adapters were looked for, and without warnings
+counted() { sed 's/^{"adapters":null,/{/; s/,"warnings":\[[^]]*\]}$/}/; s/"inputs":{[^}]*}//; s/"outputs":{[^}]*}//' "$1"; }
 
 # same_logs SAMPLES..: their trim logs are those of direct calls
 same_logs() {

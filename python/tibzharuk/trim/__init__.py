@@ -19,6 +19,7 @@
     whole_lines a program that copies the text of a lane as cutadapt takes it
     first_records
                 a program that copies the first records of a text, for --pairs
+    checksums   the file of checksums of all outputs
     report      the report, with the names of the user's files, and its page
     faults      how a run ends that can't go on
 """

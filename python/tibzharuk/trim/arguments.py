@@ -14,6 +14,7 @@ from .tools import COMPRESSORS, DECOMPRESSORS
 READS = ("paired1", "unpaired1", "paired2", "unpaired2")
 CUTADAPT_ROLES = ("cutadapt-report", "cutadapt-log")
 ROLES = READS + ("interleaved", "trimlog", "report", "html", *CUTADAPT_ROLES, "summary")
+CHECKSUMS = "checksums"     # those of all outputs, of which it is the last
 # What follows the prefix of --out. The workflow has the same names.
 ENDINGS = {
     "paired1": ".r1.paired.fastq.gz",
@@ -136,6 +137,7 @@ class Parser(argparse.ArgumentParser):
             ("--no-progress", "progress", False),
             ("--no-unpaired", "no_unpaired", True),
             ("--no-report", "no_report", True),
+            ("--checksums", CHECKSUMS, True),
             ("--need-end", "needs_end", True),
             ("--poly-g", "poly_g", True),
             ("--no-name-check", "no_name_check", True),
@@ -303,7 +305,7 @@ class Arguments:
         return "interleaved" if is_joined and role not in self.outputs else role
 
     def outputs_in_order(self) -> List[Tuple[str, str]]:
-        return [(role, self.outputs[role]) for role in ROLES if role in self.outputs]
+        return [(role, self.outputs[role]) for role in (*ROLES, CHECKSUMS) if role in self.outputs]
 
     def asks_auto(self) -> bool:
         return AUTO in map(str.lower, self.adapters)
@@ -362,7 +364,16 @@ def names_of_outputs(found: argparse.Namespace) -> Dict[str, str]:
         if role.startswith("unpaired") and found.no_unpaired:
             outputs[role] = NOWHERE
         elif found.out:
-            if os.path.basename(found.out) in ("", ".", ".."):
-                raise Fault(1, f"--out {found.out} is a directory; the names need a beginning, too")
-            outputs[role] = found.out + ending
+            outputs[role] = prefix_of(found) + ending
+    if found.checksums:
+        outputs[CHECKSUMS] = prefix_of(found) + ".sha256"
     return outputs
+
+
+def prefix_of(found: argparse.Namespace) -> str:
+    """How the names begin that --out gives."""
+    if not found.out:
+        raise Fault(1, "--checksums writes PREFIX.sha256, so it needs --out PREFIX")
+    if os.path.basename(found.out) in ("", ".", ".."):
+        raise Fault(1, f"--out {found.out} is a directory; the names need a beginning, too")
+    return str(found.out)

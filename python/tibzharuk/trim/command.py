@@ -50,6 +50,8 @@ INPUTS AND OUTPUTS
                            PREFIX.r2.paired.fastq.gz,
                            PREFIX.r2.unpaired.fastq.gz, PREFIX.json (the report)
                            and PREFIX.html (its page)
+    --checksums            PREFIX.sha256 too, with the checksums of all outputs
+                           that are files, for sha256sum -c in its directory
     --no-unpaired          unpaired reads go to /dev/null, unless they are named
     --no-report            --out names no report and no page
     --paired1 OUT          forward reads whose mate survives too

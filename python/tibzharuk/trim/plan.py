@@ -5,12 +5,12 @@ arguments and files alone, and nothing is started here: `run` does that, and `--
 import shlex
 from typing import Dict, List, NamedTuple, Optional, Sequence, Tuple, Union
 
-from .arguments import READS, Arguments
+from .arguments import CHECKSUMS, READS, Arguments
 from .files import AFTER_LINE_FEED, FIRST_RECORDS, FROM_PIPE, WHOLE_LINES, Output, Side
 from .tools import Tools
 
 # Outputs that this process writes. The program or a compressor writes the others.
-OURS = ("report", "html", "cutadapt-report", "cutadapt-log", "summary")
+OURS = ("report", "html", "cutadapt-report", "cutadapt-log", "summary", CHECKSUMS)
 # A device is opened by the child, since opening may have to wait.
 TO_DEVICE = ("sh", "-c", 'exec "$@" > "$0"')
 # Runs the user's command, and then looks whether it has read all pairs: one that ends well before

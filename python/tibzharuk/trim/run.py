@@ -8,8 +8,9 @@ import time
 from typing import Dict, List, NoReturn, Optional, Sequence, Tuple
 
 from . import faults
-from .arguments import Arguments, HelpAsked
+from .arguments import CHECKSUMS, Arguments, HelpAsked
 from .checks import check_interleaved, check_lanes, no_end
+from .checksums import checksums
 from .children import Ended, Family, Pipes
 from .cutadapt import KEEPS_BUFFERS, Cutadapt
 from .faults import Fault, Stopped, reason, say, signal_name, warn, write_all
@@ -93,6 +94,8 @@ class Run:
             output = Output(role, name)
             output.check(arguments.files_that_are_read(), self.outputs.values())
             self.outputs[role] = output
+        if CHECKSUMS in self.outputs and not self.files_with_checksums():
+            raise Fault(1, "--checksums: no output is a file")
         for each in [each for side in self.sides for each in side.inputs]:
             if each.look():
                 no_end(each.name, arguments.needs_end)
@@ -312,6 +315,9 @@ class Run:
         with self.family.heeding_signals():
             for role, text in texts.items():
                 self.write(self.outputs[role], text)
+            if CHECKSUMS in self.outputs:
+                each = self.outputs[CHECKSUMS]
+                self.write(each, checksums(self.files_with_checksums(), each.name))
             for output in self.outputs.values():
                 output.sync()
         named = give_names(self.outputs.values())
@@ -322,6 +328,10 @@ class Run:
             take_names_back(named)
             raise
         faults.ignore_signals()
+
+    def files_with_checksums(self) -> List[Output]:
+        return [output for role, output in self.outputs.items()
+                if role != CHECKSUMS and not output.is_device]
 
     def warn(self) -> None:
         """Says what may be wrong, although all went well."""
