@@ -82,7 +82,8 @@ with_adapters() {
   same_after_cutadapt s1
   same_after_cutadapt s2
   [ "$(sed 1d results/report_data/multiqc_cutadapt.txt | cut -f 1 | paste -sd' ')" = 's1 s2 s3 s4' ] || fail 'the page has no part of cutadapt for each sample'
-  grep -qF "<samp>$adapter</samp>" results/report.html || fail 'the page does not name the adapters'
+  grep -qF "<tr><th>Options</th><td><samp>none</samp></td></tr><tr><th>Adapters</th><td><samp>$adapter</samp></td></tr>" results/report.html ||
+    fail 'the page does not name the adapters as such'
   printf '>one\n%s\n' "$adapter" > adapters.fa
   row='adapters in a file'
   call 0 --profile profiles/local --config trim_logs=False adapters=adapters.fa

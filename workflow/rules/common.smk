@@ -12,6 +12,7 @@ from snakemake.exceptions import WorkflowError
 HERE = Path(str(workflow.current_basedir)).parent
 sys.path.insert(0, str(HERE / "scripts"))
 from tables import Refused, check_adapters, check_settings, read_samples
+from tibzharuk.report.settings import settings_lines
 
 # `adapters:` with nothing after it, or no such line, is the same as "".
 config["adapters"] = config.get("adapters") or ""
@@ -37,13 +38,19 @@ SCATTERED = {
     sample: [lane["lane"] for lane in lanes] for sample, lanes in SAMPLES.items() if config["scatter"] == "lanes" and len(lanes) > 1
 }
 
+
+def quoted(words):
+    """Words as the shell takes them back."""
+    return " ".join(shlex.quote(word) for word in words)
+
+
 ADAPTERS = config["adapters"]
 PYTHON = HERE.parent / "python"
 # What rules use and what doesn't change the trimmed reads. Snakemake runs a job again if one of its parameters changes, but
 # it compares only texts, numbers and lists. So a rule that has this object as a parameter isn't run again if it changes.
 SETUP = SimpleNamespace(
     program=config["program"],
-    adapters=ADAPTERS,
+    settings=quoted(settings_lines(config["steps"], config["options"], ADAPTERS)),
     trim_logs=config["trim_logs"],
     tibzharuk=str(PYTHON / "tibzharuk" / "__main__.py"),
 )
@@ -70,11 +77,6 @@ wildcard_constraints:
     lane="[A-Za-z0-9][A-Za-z0-9_.-]*",
     read="r1|r2",
     kind="paired|unpaired",
-
-
-def quoted(words):
-    """Words as the shell takes them back."""
-    return " ".join(shlex.quote(word) for word in words)
 
 
 def lanes(column):

@@ -2,8 +2,9 @@
 
 # What a job does, for a sample or for a lane. Snakemake trims again if this text changes, so it is the same for all settings.
 TRIM = """
-    {{ {params.setup.program:q} --version && printf '%s\\n' {params.steps:q} {params.options:q} {params.setup.adapters:q}; }} \\
-        > {output.settings:q} 2> {log:q}
+    exec 2> {log:q}
+    version=$({params.setup.program:q} --version)
+    printf '%s\\n' "program: ${{version%%$'\\n'*}}" {params.setup.settings} > {output.settings:q}
     more=({params.adapters})
     if [ "${{#more[@]}}" -gt 0 ]; then more+=(--cutadapt-report {params.cutadapt:q}.json --cutadapt-log {params.cutadapt:q}.log); fi
     if [ {params.setup.trim_logs} = True ]; then more+=(--trimlog {params.trimlog:q}); fi
@@ -11,7 +12,7 @@ TRIM = """
         --paired1 {output.paired1:q} --unpaired1 {output.unpaired1:q} \\
         --paired2 {output.paired2:q} --unpaired2 {output.unpaired2:q} \\
         --summary {output.summary:q} --report {output.report:q} "${{more[@]}}" --program {params.setup.program:q} \\
-        --threads {threads} {params.options} -- {params.steps} > /dev/null 2>> {log:q}
+        --threads {threads} {params.options} -- {params.steps} > /dev/null
     """
 
 

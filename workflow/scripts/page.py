@@ -23,6 +23,7 @@ sys.dont_write_bytecode = True
 sys.path.insert(0, str(PYTHON))
 
 from tibzharuk.report.reading import Refused, read_report  # noqa: E402
+from tibzharuk.report.settings import how_trimmed  # noqa: E402
 
 WARNING = "tibzharuk: warning: "
 SECTION = """<!--
@@ -84,16 +85,6 @@ def warnings_of(logs, sample, lanes):
     return found
 
 
-def settings_of(results, samples):
-    """The samples that were trimmed by the same program, steps and options, together."""
-    groups = {}
-    for sample in samples:
-        text = (results / "summaries" / f"{sample}.settings").read_text(encoding="utf-8")
-        lines = text.split("\n") + [""]
-        groups.setdefault(tuple(lines[:4]), []).append(sample)
-    return groups
-
-
 def missing_samples(failed, not_started):
     """The samples that the page lacks, and why, for the top of the page."""
     parts = []
@@ -145,21 +136,9 @@ def sample_pages(results, reports):
     return parts
 
 
-def how_trimmed(results, trimmed):
-    """Version, steps, options and adapters; each sample is named if they are not the same for all."""
-    parts = []
-    groups = settings_of(results, trimmed)
-    for (version, steps, options, adapters), samples in groups.items():
-        if len(groups) > 1:
-            parts.append(f"<h4>{html.escape(', '.join(samples))}</h4>")
-        parts.append(
-            '<table class="table table-condensed" style="width: auto">'
-            f"<tr><th>Program</th><td><samp>{html.escape(version)}</samp></td></tr>"
-            f"<tr><th>Steps</th><td><samp>{html.escape(steps)}</samp></td></tr>"
-            f"<tr><th>Options</th><td><samp>{html.escape(options) or 'none'}</samp></td></tr>"
-            f"<tr><th>Adapters</th><td><samp>{html.escape(adapters) or 'none'}</samp></td></tr></table>"
-        )
-    return parts
+def settings_of(results, trimmed):
+    """What the jobs wrote of the settings by which they trimmed the samples."""
+    return {name: (results / "summaries" / f"{name}.settings").read_text(encoding="utf-8") for name in trimmed}
 
 
 def call(command, environment):
@@ -241,7 +220,7 @@ def make_page(results, trimmed, warnings, failed, not_started):
         room = Path(name)
         (room / "read").mkdir()
         reports = gather(results, trimmed, room / "read")
-        parts += warned(results, warnings) + sample_pages(results, reports) + how_trimmed(results, trimmed)
+        parts += warned(results, warnings) + sample_pages(results, reports) + how_trimmed(settings_of(results, trimmed))
         (room / "read" / "run_mqc.html").write_text("\n".join(parts) + "\n", encoding="utf-8")
         run_multiqc(room, "\n".join(missing_samples(failed, not_started)))
         shutil.rmtree(results / "report_data", ignore_errors=True)

@@ -9,4 +9,5 @@
     lanes       the tables of lanes
     page        the whole page
     style.css   how it looks
+    settings    how the workflow trimmed a sample
 """

@@ -1,0 +1,46 @@
+"""What a job of the workflow writes of its settings, and what the page of all samples says of them."""
+
+import re
+
+import pytest
+
+from tibzharuk.report import settings
+
+STEPS = "LEADING:3 MINLEN:36"
+
+
+def cells(part):
+    """The rows of a table: name and value."""
+    return dict(re.findall("<tr><th>([^<]*)</th><td><samp>([^<]*)</samp></td></tr>", part))
+
+
+@pytest.mark.parametrize("options, adapters, row_of_options, row_of_adapters", (
+    ("", "", "none", "none"),
+    ("", "truseq", "none", "truseq"),
+    ("--no-name-check", "", "--no-name-check", "none"),
+    ("--cutadapt '-e 0.2 -O 5'", "ACGT,GGCC", "--cutadapt &#x27;-e 0.2 -O 5&#x27;", "ACGT,GGCC"),
+    ("--encoding illumina13", "a: b.fa", "--encoding illumina13", "a: b.fa"),
+    ("--no-name-check\n--sync\n", "adapters.fa", "--no-name-check --sync", "adapters.fa"),
+))
+def test_the_table_says_what_was_set(options, adapters, row_of_options, row_of_adapters):
+    lines = ["program: fq_prog 2.0.0", *settings.settings_lines(STEPS, options, adapters)]
+    assert len(lines) == 4
+    assert cells(*settings.how_trimmed({"s1": "\n".join(lines) + "\n"})) == {
+        "Program": "fq_prog 2.0.0", "Steps": STEPS, "Options": row_of_options,
+        "Adapters": row_of_adapters}
+
+
+@pytest.mark.parametrize("text, wanted", (
+    ("fq_prog 1.2.0\nLEADING:3\ntruseq\n", ("fq_prog 1.2.0", "LEADING:3")),
+    ("fq_prog 1.2.0\nLEADING:3\n\n\n", ("fq_prog 1.2.0", "LEADING:3")),
+    ("", ("not recorded", "not recorded")),
+))
+def test_a_file_without_names(text, wanted):
+    assert tuple(settings.read_settings(text).values()) == (*wanted, *["not recorded"] * 2)
+
+
+def test_samples_that_were_trimmed_in_two_ways_are_named():
+    one, two = "program: a\nsteps: S\noptions: \nadapters: \n", "program: b\nsteps: S\n"
+    parts = settings.how_trimmed({"s1": one, "s2": two, "s<3": one})
+    assert parts[0] == "<h4>s1, s&lt;3</h4>" and parts[2] == "<h4>s2</h4>"
+    assert [cells(part)["Program"] for part in parts[1::2]] == ["a", "b"]
