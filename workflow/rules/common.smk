@@ -11,8 +11,16 @@ from snakemake.exceptions import WorkflowError
 # Seen from this file, since `workflow.basedir` is that of a workflow which imports this one.
 HERE = Path(str(workflow.current_basedir)).parent
 sys.path.insert(0, str(HERE / "scripts"))
-from tables import Refused, check_adapters, check_settings, read_samples
+from tables import Refused, check_adapters, check_settings, read_samples, try_settings
 from tibzharuk.report.settings import settings_lines
+
+TIBZHARUK = str(HERE.parent / "python" / "tibzharuk" / "__main__.py")
+
+
+def quoted(words):
+    """Words as the shell takes them back."""
+    return " ".join(shlex.quote(word) for word in words)
+
 
 # `adapters:` with nothing after it, or no such line, is the same as "".
 config["adapters"] = config.get("adapters") or ""
@@ -28,6 +36,9 @@ try:
     SAMPLES = read_samples(config["samples"], HERE / "schemas" / "samples.schema.yaml")
     ADAPTER_FILE = check_adapters(config["adapters"])
     OPTIONS = shlex.split(config["options"])
+    # What Snakemake starts for a job, such as on a node, reads this file too, and needn't try them again.
+    if "--target-jobs" not in sys.argv:
+        try_settings(TIBZHARUK, config, OPTIONS)
 except Refused as why:
     raise WorkflowError(str(why))
 except ValueError as why:
@@ -38,21 +49,14 @@ SCATTERED = {
     sample: [lane["lane"] for lane in lanes] for sample, lanes in SAMPLES.items() if config["scatter"] == "lanes" and len(lanes) > 1
 }
 
-
-def quoted(words):
-    """Words as the shell takes them back."""
-    return " ".join(shlex.quote(word) for word in words)
-
-
 ADAPTERS = config["adapters"]
-PYTHON = HERE.parent / "python"
 # What rules use and what doesn't change the trimmed reads. Snakemake runs a job again if one of its parameters changes, but
 # it compares only texts, numbers and lists. So a rule that has this object as a parameter isn't run again if it changes.
 SETUP = SimpleNamespace(
     program=config["program"],
     settings=quoted(settings_lines(config["steps"], config["options"], ADAPTERS)),
     trim_logs=config["trim_logs"],
-    tibzharuk=str(PYTHON / "tibzharuk" / "__main__.py"),
+    tibzharuk=TIBZHARUK,
 )
 RESULTS = config["results"]
 READS = [(read, kind) for read in ("r1", "r2") for kind in ("paired", "unpaired")]

@@ -1,8 +1,10 @@
-"""Reads the settings and the table of the samples, and refuses bad ones with one line."""
+"""Reads the settings and the table of the samples, tries the settings, and refuses bad ones with one
+line."""
 
 import csv
 import os
 import re
+import subprocess
 import sys
 from pathlib import Path
 
@@ -52,6 +54,31 @@ def check_adapters(adapters):
     if adapters and not re.fullmatch("[ACGTUNRYSWKMBDHVI]+(,[ACGTUNRYSWKMBDHVI]+)?", adapters, re.IGNORECASE):
         raise Refused(f"settings: adapters: {adapters!r} is neither a file nor a sequence nor {names_of_known()}")
     return None
+
+
+def call_without_reads(command, settings, options):
+    """The call of a job that would trim no reads by these settings, and write nothing."""
+    words = [command, "trim", "--program", settings["program"], "--threads", str(settings["trim"]["threads"])]
+    outputs = ["paired1", "unpaired1", "paired2", "unpaired2", "summary", "report"]
+    outputs += ["trimlog"] if settings["trim_logs"] else []
+    if settings["adapters"]:
+        words += ["--adapters", settings["adapters"]]
+        outputs += ["cutadapt-report", "cutadapt-log"]
+    words += [word for option in outputs for word in (f"--{option}", os.devnull)]
+    return [*words, "-1", os.devnull, "-2", os.devnull, *options, "--", *settings["steps"].split()]
+
+
+def try_settings(command, settings, options):
+    """Refuses settings by which no sample can be trimmed: wrong steps or options, or a program that isn't there."""
+    try:
+        done = subprocess.run(
+            call_without_reads(command, settings, options),
+            stdout=subprocess.DEVNULL, stderr=subprocess.PIPE, text=True, errors="replace", timeout=300,
+        )
+    except (OSError, subprocess.TimeoutExpired) as why:
+        raise Refused(f"settings: they can't be tried: {why}") from why
+    if done.returncode != 0:
+        raise Refused(f"settings: {(done.stderr.splitlines() or [f'status {done.returncode}'])[-1]}")
 
 
 def lines_of(path):
