@@ -89,55 +89,19 @@ unlisted() {
   printf 'tibzharuk samples: %s\n' "$@" | diff - told || fail 'other lines'
 }
 
+# The kinds of names are in python/tests/test_samples.py.
 names_of_files() {
-  row='names of Illumina'
+  row='names of files'
   touched a_S1_L00{1,2}_R{1,2}_001.fastq.gz a_S1_L001_I1_001.fastq.gz run2/b_c_S12_L001_R{1,2}_001.fastq.gz list.csv
   listed 'a\tL001\tnames/a_S1_L001_R1_001.fastq.gz\tnames/a_S1_L001_R2_001.fastq.gz
 a\tL002\tnames/a_S1_L002_R1_001.fastq.gz\tnames/a_S1_L002_R2_001.fastq.gz
 b_c\tL001\tnames/run2/b_c_S12_L001_R1_001.fastq.gz\tnames/run2/b_c_S12_L001_R2_001.fastq.gz\n'
-  row='names without numbers of samples, without lanes, of parts'
-  touched a_L001_R{1,2}_00{1,2}.fastq.gz b_S1_R{1,2}_001.fq.gz c_R{1,2}.fastq
-  listed 'a\tL001\tnames/a_L001_R1_001.fastq.gz\tnames/a_L001_R2_001.fastq.gz
-a\tL001_002\tnames/a_L001_R1_002.fastq.gz\tnames/a_L001_R2_002.fastq.gz
-b\t1\tnames/b_S1_R1_001.fq.gz\tnames/b_S1_R2_001.fq.gz
-c\t1\tnames/c_R1.fastq\tnames/c_R2.fastq\n'
-  row='names of the SRA'
-  touched SRR1_{1,2}.fastq.gz x_S1_{1,2}.fq x_S2_{1,2}.fq
-  listed 'SRR1\t1\tnames/SRR1_1.fastq.gz\tnames/SRR1_2.fastq.gz
-x_S1\t1\tnames/x_S1_1.fq\tnames/x_S1_2.fq
-x_S2\t1\tnames/x_S2_1.fq\tnames/x_S2_2.fq\n'
-  row='links to directories'
-  touched a_R{1,2}.fq
-  mkdir -p far
-  touch far/b_R{1,2}.fq
-  ln -sfn ../far names/c
-  ln -sfn ../far names/d
-  ln -sfn .. names/run2/up
-  listed 'a\t1\tnames/a_R1.fq\tnames/a_R2.fq
-b\t1\tnames/c/b_R1.fq\tnames/c/b_R2.fq\n'
-  row='links that lead nowhere'
-  touched a_R{1,2}.fq
-  ln -s ../gone names/run7
-  unlisted 'names/run7: No such file or directory'
   row='a directory whose name is no UTF-8'
   touched x
   mkdir $'names/M\xfcller'
   touch $'names/M\xfcller/a_R'{1,2}.fq
   unlisted "names/M\\udcfcller/a_R1.fq: it has a character that the workflow doesn't take" \
     "names/M\\udcfcller/a_R2.fq: it has a character that the workflow doesn't take"
-  row='a directory that is not there'
-  rm -rf names
-  unlisted 'names: No such file or directory'
-  row='files that do not pair up'
-  touched a_R{1,2}.fastq.gz run2/a_R1.fastq b_L001_R2.fq c.fastq.gz '{d}_1.fq' "it's_1.fq"
-  unlisted "names/c.fastq.gz: not named as one of a pair (tibzharuk samples --help)" \
-    "names/it's_1.fq: not named as one of a pair (tibzharuk samples --help)" \
-    "names/{d}_1.fq: it has a character that the workflow doesn't take" \
-    'names/run2/a_R1.fastq: sample a, lane 1 is already in names/a_R1.fastq.gz' \
-    'names/b_L001_R2.fq: there is no file of its forward mates'
-  row='no files'
-  touched notes.txt
-  unlisted 'names: there are no FASTQ files'
 }
 
 # same_from_tables: tibzharuk samples makes the table of this lab's reads, and the samples of an nf-core
