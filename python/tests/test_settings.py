@@ -1,4 +1,4 @@
-"""What a job of the workflow writes of its settings, and what the page of all samples says of them."""
+"""What a job of the workflow writes of its settings, and what the page of all says of them."""
 
 import re
 

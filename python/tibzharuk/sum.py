@@ -9,9 +9,9 @@ REPORTs, in their order, and has the warnings of all, each once. It names the
 outputs that are given here, or otherwise those of all REPORTs.
 
 The REPORTs must be of the same version, steps and settings, and of runs that
-read their inputs to the end, without --pairs. Otherwise nothing is printed, and
-one line on standard error says why, with status 1. Unknown arguments end with
-status 2.
+read their inputs to the end, without --pairs, each of another lane. Otherwise
+nothing is printed, and one line on standard error says why, with status 1.
+Unknown arguments end with status 2.
 """
 
 import argparse
@@ -72,6 +72,21 @@ def must_match(path: str, report: Report, first: Report) -> None:
             raise Refused(f"{path}: {name} can't be added up")
 
 
+def is_same_lane(report: Report, other: Report) -> bool:
+    """Whether two reports are of the same inputs, with the same counts of some pairs: the outputs
+    may have other names."""
+    names = (set(report) | set(other)) - {"outputs"}
+    same = all(report.get(name) == other.get(name) for name in names)
+    return same and report["pairs"]["input"] > 0
+
+
+def must_be_another(path: str, report: Report, earlier: Dict[str, Report]) -> None:
+    """Refuses a lane that is among earlier ones, by their paths."""
+    for name, other in earlier.items():
+        if os.path.realpath(path) == os.path.realpath(name) or is_same_lane(report, other):
+            raise Refused(f"{plain(path)}: it is of the same lane as {plain(name)}")
+
+
 def without_counts(adapters: Any) -> Any:
     """What a report says of adapters, with null for each count."""
     if isinstance(adapters, dict):
@@ -124,8 +139,9 @@ def added(first: Report, second: Report) -> Report:
         for one, two in zip(first["steps"], second["steps"])
     ]
     of_trim: Dict[str, Any] = {}    # what only reports of tibzharuk trim have
-    if "adapters" in first:
-        of_trim["adapters"] = added_adapters(first["adapters"], second["adapters"])
+    if "adapters" in first or "adapters" in second:
+        both_of = (report.get("adapters") for report in (first, second))
+        of_trim["adapters"] = added_adapters(*both_of)
     if "warnings" in first or "warnings" in second:
         told = first.get("warnings", []) + second.get("warnings", [])
         of_trim["warnings"] = list(dict.fromkeys(told))
@@ -151,10 +167,13 @@ def limited(value: Any) -> Any:
 
 def report_of_all(paths: List[str]) -> Report:
     """The sum of the reports in these files."""
-    whole = None  # type: Optional[Report]
+    whole: Optional[Report] = None
+    read: Dict[str, Report] = {}
     for path in paths:
         report = read_report(path)
         must_match(plain(path), report, whole or report)
+        must_be_another(path, report, read)
+        read[path] = report
         whole = added(whole, report) if whole else report
     found: Report = limited(whole)
     return found

@@ -15,7 +15,16 @@ from typing import Any, Dict, List
 
 SIDES = ("forward", "reverse")
 TABLE = "tibzharuk_{}_plot"
-COLUMNS = ["Pairs", "Mb before", "Mb after", "% Q30 before", "% Q30 after", "% pairs kept"]
+RAW = {"Mb raw": "{:,.2f}", "% adapter": "{:,.1f}%"}  # if adapters were removed of a sample
+FORMS = {
+    "Pairs": "{:,.0f}",
+    **RAW,
+    "Mb before": "{:,.2f}",
+    "Mb after": "{:,.2f}",
+    "% Q30 before": "{:,.1f}%",
+    "% Q30 after": "{:,.1f}%",
+    "% pairs kept": "{:,.1f}%",
+}
 
 
 def samples(paths: List[str]) -> Dict[str, Any]:
@@ -31,16 +40,28 @@ def total(report: Any, when: str, field: str) -> int:
     return sum(part[field] for side in SIDES for part in parts(report, side, when))
 
 
-def numbers(report: Any) -> Dict[str, float]:
-    """What the columns of the first table must be; a percentage of nothing is missing."""
+def columns(reports: Dict[str, Any]) -> List[str]:
+    """The columns of the first table."""
+    with_raw = any(report.get("adapters") for report in reports.values())
+    return [name for name in FORMS if with_raw or name not in RAW]
+
+
+def numbers(report: Any, wanted: List[str]) -> Dict[str, float]:
+    """What these columns of the first table must be; a percentage of nothing is missing."""
     pairs, kept = report["pairs"]["input"], report["pairs"]["both_surviving"]
     found = {"Pairs": pairs}
     shares = {"% pairs kept": (kept, pairs)}
+    if "adapters" in report:
+        sides = [report["adapters"][side] for side in SIDES] if report["adapters"] else []
+        removed = sum(side["bases_removed"] for side in sides)
+        found["Mb raw"] = (total(report, "before", "bases") + removed) / 1e6
+        looked = [side["pairs_with_adapter"] for side in sides if side["pairs_with_adapter"] is not None]
+        shares["% adapter"] = sum(looked), len(looked) * (report["adapters"] or {}).get("pairs_read", 0)
     for when in ("before", "after"):
         found[f"Mb {when}"] = total(report, when, "bases") / 1e6
         shares[f"% Q30 {when}"] = total(report, when, "q30_bases"), total(report, when, "bases")
     found.update({name: 100 * part / whole for name, (part, whole) in shares.items() if whole})
-    return found
+    return {name: found[name] for name in wanted if name in found}
 
 
 # The tables.
@@ -101,7 +122,7 @@ def check_data(data: str, reports: Dict[str, Any]) -> None:
     kinds = ("both_surviving", "forward_only_surviving", "reverse_only_surviving", "dropped")
     drawn = {}
     for name, report in reports.items():
-        wanted = sorted(round(number, 4) for number in numbers(report).values())
+        wanted = sorted(round(number, 4) for number in numbers(report, columns(reports)).values())
         assert sorted(round(number, 4) for number in first[name].values()) == wanted, (name, first[name], wanted)
         assert list(pairs[name].values()) == [report["pairs"][kind] for kind in kinds], name
         for side in SIDES:
@@ -156,12 +177,12 @@ class Table(html.parser.HTMLParser):
 def check_page(dom: str, reports: Dict[str, Any]) -> None:
     table = Table(pathlib.Path(dom).read_text("utf-8"))
     header, *rows = [[" ".join(cell.split()) for cell in row] for row in table.rows]
-    assert header == ["Sample Name", *COLUMNS], header
+    shown = columns(reports)
+    assert header == ["Sample Name", *shown], header
     assert [row[0] for row in rows] == sorted(reports), rows
-    forms = ["{:,.0f}", "{:,.2f}", "{:,.2f}", "{:,.1f}%", "{:,.1f}%", "{:,.1f}%"]
     for name, *cells in rows:
-        found = numbers(reports[name])
-        wanted = [form.format(found[column]) if column in found else "" for column, form in zip(COLUMNS, forms)]
+        found = numbers(reports[name], shown)
+        wanted = [FORMS[column].format(found[column]) if column in found else "" for column in shown]
         assert [cell.replace(" ", "").replace("\u00a0", "") for cell in cells] == wanted, (name, cells, wanted)
 
 

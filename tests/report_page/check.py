@@ -157,22 +157,23 @@ def near(text, part, whole):
     assert low <= (100 * part / whole if whole else 0) <= high, (text, part, whole)
 
 
-def check_scores(page, report, side):
+def check_by_position(page, report, side, figure, field, factor):
+    """The values of a field at each position, before and after."""
     before, left = [report["reads"][side]["before"]], after(report, side)
-    told = page.figures[f"{side}: mean score by position in the read"]
+    told = page.figures[f"{side}: {figure} by position in the read"]
     longest = len(before[0]["positions"]["bases"])
     if longest <= 320:
         assert len(told) == longest, (len(told), longest)
     for line in told:
-        name, *numbers = re.fullmatch(r"position ([0-9, to]+): (?:before ([0-9.]+))(?:, after ([0-9.]+))?", line).groups()
+        name, *numbers = re.fullmatch(r"position ([0-9, to]+): (?:before ([0-9.]+))(?:, after ([0-9.]+))?", line.replace(" %", "")).groups()
         first, *last = (int(each.replace(",", "")) for each in name.split(" to "))
         places = range(first - 1, (last or [first])[0])
         assert places[-1] < LAST - 1, line
         for number, parts in zip(numbers, (before, left)):
             bases = sum(at(parts, "bases", place) for place in places)
             assert (number is None) == (bases == 0), line
-            scores = sum(at(parts, "score_sum", place) for place in places)
-            assert not bases or abs(float(number) - scores / bases) <= 0.0501, (line, scores, bases)
+            found = factor * sum(at(parts, field, place) for place in places)
+            assert not bases or abs(float(number) - found / bases) <= 0.0501, (line, found, bases)
 
 
 def check_letters(page, report, side):
@@ -343,6 +344,7 @@ def check_page(report_path, page_path):
     reads = report["reads"]["forward"]["before"]
     known = {
         "mean score by position": "positions" in reads,
+        "Q30 by position": "positions" in reads,
         "reads by mean score": "mean_scores" in reads,
         "removed": "removed_front" in report["reads"]["forward"],
     }
@@ -351,7 +353,8 @@ def check_page(report_path, page_path):
     for side in SIDES if reads["reads"] else ():
         check_lengths(page, report, side)
         if "positions" in reads:
-            check_scores(page, report, side)
+            check_by_position(page, report, side, "mean score", "score_sum", 1)
+            check_by_position(page, report, side, "% of bases with Q30", "q30_bases", 100)
             check_letters(page, report, side)
         if "mean_scores" in reads:
             check_histogram(page, report, side, "mean score", "reads with mean score {}", "mean_scores")

@@ -1,6 +1,6 @@
 """The numbers that MultiQC's page shows of a report that was read and checked."""
 
-from typing import Any, Dict, Iterable, List, Optional, Tuple
+from typing import Any, Dict, Iterable, List, Mapping, Optional, Tuple
 
 from ..report.reading import LAST, PAIRS, ROWS, SIDES, Reads, Report, both
 
@@ -24,12 +24,31 @@ def percent(part: int, whole: int) -> Optional[float]:
     return round(100 * part / whole, 4) if whole else None
 
 
+def adapter_columns(report: Report) -> Dict[str, Optional[float]]:
+    """The megabases before cutadapt, and the % of reads in which it found an adapter, of those that
+    it looked at. Nothing if the report, as one of fq_prog, doesn't know of cutadapt."""
+    if "adapters" not in report:
+        return {}
+    bases = sum(reads["bases"] for reads in before(report))
+    adapters = report["adapters"]
+    if not adapters:
+        return {"megabases_raw": bases / 1_000_000}
+    removed = sum(adapters[side]["bases_removed"] for side in SIDES)
+    counts = [adapters[side]["pairs_with_adapter"] for side in SIDES]
+    found = [count for count in counts if count is not None]
+    return {
+        "megabases_raw": (bases + removed) / 1_000_000,
+        "percent_with_adapter": percent(sum(found), len(found) * adapters["pairs_read"]),
+    }
+
+
 def table_row(report: Report) -> Dict[str, float]:
     """The columns of the general statistics. No percentage if the whole is zero."""
     old, new = both(*before(report)), both(*after(report))
     pairs = report["pairs"]
-    values = {
+    values: Dict[str, Optional[float]] = {
         "pairs": pairs["input"],
+        **adapter_columns(report),
         "megabases_before": old["bases"] / 1_000_000,
         "megabases_after": new["bases"] / 1_000_000,
         "percent_q30_before": percent(old["q30_bases"], old["bases"]),
@@ -37,6 +56,15 @@ def table_row(report: Report) -> Dict[str, float]:
         "percent_pairs_kept": percent(pairs["both_surviving"], pairs["input"]),
     }
     return {name: value for name, value in values.items() if value is not None}
+
+
+def table_rows(reports: Mapping[str, Report]) -> Dict[str, Dict[str, float]]:
+    """The rows of the general statistics. If cutadapt was used for none, raw is as before."""
+    rows = {name: table_row(report) for name, report in reports.items()}
+    if not any(report.get("adapters") for report in reports.values()):
+        for row in rows.values():
+            row.pop("megabases_raw", None)
+    return rows
 
 
 def pairs_bar(report: Report) -> List[int]:

@@ -21,7 +21,17 @@ MEGABASES = {"format": "{:,.2f}", "scale": "Greys"}
 Q30 = "% of the bases {} trimming that have a score of at least 30"
 COLUMNS: Dict[str, Tuple[str, str, Dict[str, Any]]] = {
     "pairs": ("Pairs", "Pairs that were read", {"format": "{:,.0f}", "scale": "Blues"}),
-    "megabases_before": ("Mb before", "Megabases of both sides that were read", MEGABASES),
+    "megabases_raw": ("Mb raw", "Megabases of both sides, with adapters", MEGABASES),
+    "percent_with_adapter": (
+        "% adapter",
+        "% of the reads in which cutadapt found an adapter",
+        dict(PERCENT, scale="OrRd"),
+    ),
+    "megabases_before": (
+        "Mb before",
+        "Megabases of both sides before the steps, without the adapters that cutadapt removed",
+        MEGABASES,
+    ),
     "megabases_after": ("Mb after", "Megabases left of the reads that survive", MEGABASES),
     "percent_q30_before": ("% Q30 before", Q30.format("before"), PERCENT),
     "percent_q30_after": ("% Q30 after", Q30.format("after"), PERCENT),
@@ -157,12 +167,13 @@ class MultiqcModule(BaseMultiqcModule):
         )
 
     def add_table(self) -> None:
-        """The columns of the general statistics."""
+        """The columns of the general statistics for which a report has a number."""
+        rows = counts.table_rows(self.reports)
         headers = OrderedDict(
             (key, {"title": title, "description": description, "min": 0, **form})
             for key, (title, description, form) in COLUMNS.items()
+            if any(key in row for row in rows.values())
         )
-        rows = {name: counts.table_row(report) for name, report in self.reports.items()}
         self.general_stats_addcols(rows, headers)
         self.write_data_file(rows, "multiqc_tibzharuk")
 

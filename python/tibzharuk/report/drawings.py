@@ -32,6 +32,7 @@ def graphs(title: str, said: str, names_of_lines: str, make: Make) -> str:
 
 OTHER = "other"  # what is none of LETTERS, such as R and Y
 SCORES = Axes("mean score", "position in the read", "position {}", WHEN)
+HIGH_SCORES = Axes("% of bases with Q30", "position in the read", "position {}", WHEN, " %")
 
 
 def means(reads: Reads, field: str, over: Iterable[Span], factor: int) -> Means:
@@ -66,6 +67,17 @@ def not_drawn(*sets: Sides) -> str:
     return f" Positions above {LAST - 1:,} are not drawn." if more else ""
 
 
+def before_after_graph(graph: Graph, over: Sequence[Span], lines: Sequence[Means]) -> Graph:
+    """The graph with a line before trimming and one after it."""
+    graph.line(points(lines[0]), "grey", dashed=True)
+    graph.line(points(lines[1]), "blue")
+    for span in over:
+        values = [f"{found[span]:.1f}" if span in found else None for found in lines]
+        if any(values):
+            graph.tip(span[0] + 0.5, span[1] + 0.5, span_name(span), values)
+    return graph
+
+
 def scores_by_position(before: Sides, after: Sides) -> str:
     def make(side: str) -> Iterator[Graph]:
         over = position_spans(before[side], after[side])
@@ -74,13 +86,7 @@ def scores_by_position(before: Sides, after: Sides) -> str:
         graph = Graph(side, SCORES, 1, over[-1][1] if over else 1, max(high, 40))
         graph.mark(20, "Q20")
         graph.mark(30, "Q30")
-        graph.line(points(lines[0]), "grey", dashed=True)
-        graph.line(points(lines[1]), "blue")
-        for span in over:
-            values = [f"{found[span]:.1f}" if span in found else None for found in lines]
-            if any(values):
-                graph.tip(span[0] + 0.5, span[1] + 0.5, span_name(span), values)
-        yield graph
+        yield before_after_graph(graph, over, lines)
 
     said = (
         "Mean Phred score of the bases at each position. Position 1 is the first base of the read "
@@ -88,6 +94,21 @@ def scores_by_position(before: Sides, after: Sides) -> str:
     )
     said += not_drawn(before, after)
     return graphs("Mean score by position", said, BEFORE_AFTER, make)
+
+
+def high_scores_by_position(before: Sides, after: Sides) -> str:
+    def make(side: str) -> Iterator[Graph]:
+        over = position_spans(before[side], after[side])
+        lines = [means(reads[side], "q30_bases", over, 100) for reads in (before, after)]
+        graph = Graph(side, HIGH_SCORES, 1, over[-1][1] if over else 1, 100)
+        yield before_after_graph(graph, over, lines)
+
+    said = (
+        "Share of the bases at each position that have a score of 30 or more. It says more than "
+        "the mean if the machine writes only a few scores."
+    )
+    said += not_drawn(before, after)
+    return graphs("Bases with Q30 or more by position", said, BEFORE_AFTER, make)
 
 
 def letters_graph(side: str, when: str, reads: Reads, names: Sequence[str]) -> Graph:
@@ -295,7 +316,8 @@ def drawings(report: Report, before: Sides, after: Sides) -> List[str]:
         return []
     found = []
     if all("positions" in reads for reads in every):
-        found += [scores_by_position(before, after), letters_by_position(before, after)]
+        by_position = (scores_by_position, high_scores_by_position, letters_by_position)
+        found += [section_of(before, after) for section_of in by_position]
     found.append(reads_by_length(before, after))
     for histogram in HISTOGRAMS:
         if all(histogram.field in reads for reads in every):

@@ -34,7 +34,7 @@ def page(report: Report, sample: str, cutadapt: str = "", lanes: Lanes = ()) -> 
         f'<span class="soft">trimmed by Tibzharuk, {program}</span></header>',
         f'<p class="steps">{steps}</p>',
         warnings(report, before),
-        cards(report["pairs"], before, after),
+        cards(report, before, after),
         pair_bar(report["pairs"]),
         lane_tables(lanes),
         adapter_table(report, before),

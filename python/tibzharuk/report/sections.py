@@ -48,8 +48,17 @@ def warnings(report: Report, before: Sides) -> str:
     )
 
 
-def cards(pairs: Dict[str, int], before: Sides, after: Sides) -> str:
+def raw_bases(report: Report) -> int:
+    """The bases of both sides, with those that cutadapt removed before the steps."""
+    adapters = report.get("adapters")
+    removed = sum(adapters[side]["bases_removed"] for side in SIDES) if adapters else 0
+    bases = sum(report["reads"][side]["before"]["bases"] for side in SIDES)
+    return int(bases + removed)
+
+
+def cards(report: Report, before: Sides, after: Sides) -> str:
     """The numbers that a reader looks for first."""
+    pairs, raw = report["pairs"], raw_bases(report)
     old, new = (
         {name: sum(reads[side][name] for side in SIDES) for name in COUNTS}
         for reads in (before, after)
@@ -61,6 +70,7 @@ def cards(pairs: Dict[str, int], before: Sides, after: Sides) -> str:
     kept = pairs["both_surviving"]
     low = " low" if 2 * kept < pairs["input"] else ""
     q30 = [share(each["q30_bases"], each["bases"]) for each in (old, new)]
+    when = " before cutadapt" if raw > old["bases"] else ""
     entries = (
         (
             "Pairs kept",
@@ -69,8 +79,8 @@ def cards(pairs: Dict[str, int], before: Sides, after: Sides) -> str:
         ),
         (
             "Bases kept",
-            unbroken(share(new["bases"], old["bases"])),
-            f"{short(new['bases'])} of {short(old['bases'])}",
+            unbroken(share(new["bases"], raw)),
+            f"{short(new['bases'])} of {short(raw)}{when}",
         ),
         ("Bases with Q30 or more", unbroken(q30[1]), f"before: {q30[0]}"),
         ("Mean length, forward | reverse", lengths[1], f"before: {lengths[0]}"),

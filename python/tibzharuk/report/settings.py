@@ -1,8 +1,8 @@
-"""How the workflow trimmed a sample: what a job writes beside the summary, and its table on the page
-of all samples.
+"""How the workflow trimmed a sample: what a job writes beside the summary, and its table on the
+page of all samples.
 
-The file has a line for each field, its name before `: `. Versions before 2.0.0 wrote the program and
-the steps without names, on the first two lines.
+The file has a line for each field, its name before `: `. Versions before 2.0.0 wrote the program
+and the steps without names, on the first two lines.
 """
 
 from typing import Dict, List, Mapping
