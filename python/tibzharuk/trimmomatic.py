@@ -226,7 +226,7 @@ def offset_in(files: Sequence[str]) -> Optional[int]:
     """That of the first reads of both sides, if these are files, and agree."""
     if not all(os.path.isfile(name) for name in files):
         return None
-    found = {offset_of(b"".join(first_reads(name, FIRST_READS, math.inf, 3))) for name in files}
+    found = {offset_of(b"".join(first_reads(name, FIRST_READS, 3))) for name in files}
     return found.pop() if len(found) == 1 else None
 
 

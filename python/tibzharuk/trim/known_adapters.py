@@ -83,9 +83,9 @@ def first_reads(name: str, most: int, line: int = 1) -> List[bytes]:
     text = first_text(name, 4 * most)
     lines = text.split(b"\n")
     reads = min(text.count(b"\n") // 4, most)
-    if not all(line.startswith(b"@") for line in lines[:4 * reads:4]):
+    if not all(title.startswith(b"@") for title in lines[:4 * reads:4]):
         return []
-    if not all(line.startswith(b"+") for line in lines[2:4 * reads:4]):
+    if not all(between.startswith(b"+") for between in lines[2:4 * reads:4]):
         return []
     return lines[line:4 * reads:4]
 
