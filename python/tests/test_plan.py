@@ -78,9 +78,13 @@ def test_cutadapt_is_between():
 
 def test_a_mapper():
     line = "-i d --interleaved s.sam --no-unpaired --through mapper"
-    given = planned(line)[0]
-    assert given.startswith("interleaved: sh -c ")
-    assert given.endswith(" sh mapper < <(interleaved) > s.sam")
+    assert planned(line)[0] == (
+        "interleaved: bash -o pipefail -c mapper < <(interleaved) > s.sam")
+
+
+def test_what_counts_its_records():
+    got = plan.counter(4, "interleaved")
+    assert got.words == ("samtools", "flagstat", "-@", "4", plan.Made("interleaved"))
 
 
 @pytest.mark.parametrize("place, words", (

@@ -1,6 +1,7 @@
 """The arguments of a run."""
 
 import argparse
+import copy
 import os
 import re
 import shlex
@@ -143,6 +144,7 @@ class Parser(argparse.ArgumentParser):
             ("--no-name-check", "no_name_check", True),
             ("--sync", "sync", True),
             ("--dry-run", "dry_run", True),
+            ("--expect-pairs", "expect_pairs", True),
         ):
             self.add_once(name, dest=field, nargs=0, const=value)
 
@@ -261,8 +263,12 @@ class Arguments:
         self.adapters_auto: Optional[str] = None    # what --adapters auto took
         self.cutadapt: Optional[List[str]] = found.cutadapt
         self.through: Optional[str] = found.through
+        self.expects_pairs = bool(found.expect_pairs)
         self.poly_g = bool(found.poly_g)
-        self.progress: Optional[bool] = found.progress  # None: if standard error is a terminal
+        # None: if standard error is a terminal. The user's command prints lines of its own there.
+        self.progress: Optional[bool] = found.progress
+        if found.through and found.progress is None:
+            self.progress = False
         self.asks_version: bool = found.asks_version
         self.needs_end = bool(found.needs_end)
         self.checks_names = not found.no_name_check
@@ -295,9 +301,18 @@ class Arguments:
                 raise Fault(1, "--interleaved sets --block itself")
         if self.through and self.outputs.get("interleaved", ".gz").lower().endswith(".gz"):
             raise Fault(1, "--through needs --interleaved, whose name doesn't end in .gz")
+        if self.expects_pairs and not self.through:
+            raise Fault(1, "--expect-pairs without --through")
         for role in CUTADAPT_ROLES:
             if role in self.outputs and not self.uses_cutadapt():
                 raise Fault(1, f"--{role} without --adapters or --cutadapt")
+
+    def into_nowhere(self) -> "Arguments":
+        """The same inputs and steps, without cutadapt and without outputs."""
+        given = copy.copy(self)
+        given.adapters, given.cutadapt, given.poly_g, given.through = [], None, False, None
+        given.outputs = dict.fromkeys(READS, NOWHERE)
+        return given
 
     def written_as(self, role: str) -> str:
         """The role of the output that gets the reads of this role."""

@@ -7,6 +7,7 @@ import zlib
 from typing import List, Optional, Sequence, Tuple
 
 from .faults import Fault, warn
+from .known_adapters import pieces
 
 FORMATS = (
     (b"BZh", "bzip2"), (b"\xfd7zXZ\0", "xz"), (b"\x28\xb5\x2f\xfd", "zstd"), (b"PK\3\4", "zip"))
@@ -18,7 +19,8 @@ RECORD_BYTES = 1 << 20  # a first record that is longer isn't looked at
 # So many first records are compared. A pair or two may be the same on both sides: two reads without
 # a base (N), with the same title, as at the edge of a tile in files of the SRA.
 RECORDS = 100
-READ_NUMBER = re.compile(rb"@\S*\s+([1-9]):[YN]:")
+# Some programs keep it when they add the usual /1 and /2, as 1 on both sides.
+READ_NUMBER = re.compile(rb"@\S*(?<!/[12])\s+([1-9]):[YN]:")
 PASSED = "(--no-name-check passes them)"
 
 
@@ -52,16 +54,13 @@ def no_end(name: str, is_refused: bool) -> None:
 
 def beginning(name: str) -> bytes:
     """The beginning of a file's text, decompressed as far as that is possible."""
-    text = b""
-    with contextlib.suppress(OSError, zlib.error), open(name, "rb") as file:
-        data = file.read(RECORD_BYTES)
-        if not data.startswith(b"\x1f\x8b"):
-            return data
-        while data and len(text) < RECORD_BYTES:
-            member = zlib.decompressobj(31)
-            text += member.decompress(data, RECORD_BYTES)
-            data = member.unused_data
-    return text
+    text = bytearray()
+    with contextlib.suppress(OSError, zlib.error):
+        for piece in pieces(name):
+            text += piece
+            if len(text) >= RECORD_BYTES:
+                break
+    return bytes(text)
 
 
 def first_records(name: str, count: int) -> List[List[bytes]]:

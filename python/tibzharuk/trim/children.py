@@ -3,6 +3,7 @@
 import contextlib
 import fcntl
 import os
+import select
 import selectors
 import signal
 import subprocess
@@ -83,18 +84,23 @@ class Ended(NamedTuple):
         return reason_of(self.text(), name) or f"status {self.status}"
 
 
+def for_tools(usual: Usual) -> Dict[str, str]:
+    """The environment of a tool, without options that the user has set for other calls of it."""
+    environment: Dict[str, str] = {**dict(usual), **os.environ, "LC_ALL": "C"}
+    for options in "GZIP", "PIGZ":
+        environment.pop(options, None)
+    return environment
+
+
 class Child:
     """A program that was started, in a process group of its own, and what it prints on standard
     error."""
 
     def __init__(self, name: str, words: List[str], stdin: Optional[int], stdout: Optional[int],
-                 passed: Sequence[int], said: Tuple[bytearray, int], usual: Usual,
+                 passed: Sequence[int], said: Tuple[bytearray, int], environment: Dict[str, str],
                  first: Optional[Callable[[], None]]) -> None:
         self.name = name
         self.status: Optional[int] = None
-        environment: Dict[str, str] = {**dict(usual), **os.environ, "LC_ALL": "C"}
-        for options in "GZIP", "PIGZ":
-            environment.pop(options, None)
         self.said, said_end = said
         for fd in passed:
             os.set_inheritable(fd, True)
@@ -200,13 +206,16 @@ class Family:
         self.selector.register(fd, selectors.EVENT_READ, None)
 
     def start(self, name: str, words: List[str], stdin: Optional[int] = None,
-              stdout: Optional[int] = None, passed: Sequence[int] = (), usual: Usual = ()) -> None:
+              stdout: Optional[int] = None, passed: Sequence[int] = (), usual: Usual = (),
+              is_users: bool = False) -> None:
         """Starts a child. Its standard error is gathered, and its standard output too if none is
-        given. cutadapt isn't killed with this process, as its own processes would wait for it
-        forever: it ends soon after its inputs do."""
+        given. A command of the user has the user's environment and our standard error. cutadapt
+        isn't killed with this process, as its own processes would wait for it forever: it ends soon
+        after its inputs do."""
         first = None if name == "cutadapt" else self.end_with_us
-        self.children.append(
-            Child(name, words, stdin, stdout, passed, self.listen(), usual, first))
+        said = (bytearray(), os.dup(2)) if is_users else self.listen()
+        environment = dict(os.environ) if is_users else for_tools(usual)
+        self.children.append(Child(name, words, stdin, stdout, passed, said, environment, first))
 
     def attend(self) -> None:
         """Waits until something happens, but at most for `pause` seconds."""
@@ -293,6 +302,14 @@ class Pipes:
 
     def close(self, name: str, is_writing: bool) -> None:
         os.close(self.ends[name][is_writing])
+
+    def left(self, name: str) -> Tuple[bool, bool]:
+        """Whether a pipe, which this process can read, holds something, and whether more may be
+        written to it."""
+        poll = select.poll()
+        poll.register(self.ends[name][0], select.POLLIN)
+        events = sum(event for _, event in poll.poll(0))
+        return bool(events & select.POLLIN), not events & select.POLLHUP
 
     def let_go(self) -> None:
         """Closes the ends that only children need, after all children have them."""

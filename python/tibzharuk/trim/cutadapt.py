@@ -19,6 +19,7 @@ KEEPS_BUFFERS = {"MALLOC_MMAP_THRESHOLD_": "33554432", "MALLOC_TRIM_THRESHOLD_":
 POLY_G = ["--nextseq-trim=20"]
 # What to do about a text that the program takes but cutadapt doesn't, by what cutadapt prints.
 FOUR_LINES = "cutadapt needs records of four lines, without empty lines between them"
+NOT_ASCII, OTHER_NAME = "Non-ASCII", "Read name"
 ASCII_TITLES = "cutadapt needs titles in ASCII"
 SAME_NAMES = ("cutadapt compares names even with --no-name-check; "
               "seqtk rename gives both mates the same ones")
@@ -98,14 +99,16 @@ class Cutadapt:
 
     def with_remedy(self, line: str) -> str:
         """The line, with the files that it is about, and what to do."""
-        named = f"{line} ({', '.join(self.files)})"
-        if "Non-ASCII" in line:
-            return f"{named}: {ASCII_TITLES}"
-        if "Error in FASTQ file" in line:
-            return f"{named}: {FOUR_LINES}"
-        if "Read name" in line and not self.checks_names:
-            return f"{named}: {SAME_NAMES}"
-        return named
+        files = f"({', '.join(self.files)})"
+        if self.is_stricter(line):
+            return f"{line} {files}: {ASCII_TITLES if NOT_ASCII in line else SAME_NAMES}"
+        if "Could not determine whether file" in line:
+            return f"a record isn't FASTQ {files}: {FOUR_LINES}"
+        return f"{line} {files}" + (f": {FOUR_LINES}" if "Error in FASTQ file" in line else "")
+
+    def is_stricter(self, line: str) -> bool:
+        """Whether it refuses what the program takes."""
+        return NOT_ASCII in line or OTHER_NAME in line and not self.checks_names
 
     def passed(self) -> Optional[int]:
         """The pairs that it passed on, or None if it doesn't say."""

@@ -5,11 +5,14 @@ import os
 import signal
 from typing import Callable, List
 
+# What ends no process, or what none can handle, or what shows a fault of this process itself.
+OTHERS = (
+    signal.SIGCHLD, signal.SIGCONT, signal.SIGURG, signal.SIGWINCH, signal.SIGTSTP, signal.SIGTTIN,
+    signal.SIGTTOU, signal.SIGKILL, signal.SIGSTOP, signal.SIGSEGV, signal.SIGBUS, signal.SIGFPE,
+    signal.SIGILL, signal.SIGTRAP, signal.SIGSYS, signal.SIGPIPE)
 # What ends a process, unless it is handled. Batch systems send SIGUSR1, SIGUSR2, SIGXCPU or SIGALRM
 # some time before they kill.
-SIGNALS = (
-    signal.SIGINT, signal.SIGTERM, signal.SIGHUP, signal.SIGQUIT, signal.SIGUSR1, signal.SIGUSR2,
-    signal.SIGXCPU, signal.SIGALRM, signal.SIGVTALRM, signal.SIGPROF)
+SIGNALS = tuple(sorted(set(signal.valid_signals()) - set(OTHERS)))
 
 
 class Fault(Exception):
@@ -52,7 +55,7 @@ def reason(error: OSError) -> str:
 
 def ignore_signals() -> None:
     """From here on no signal interrupts the end of the run."""
-    for number in SIGNALS + (signal.SIGTSTP,):
+    for number in (*SIGNALS, signal.SIGTSTP):
         signal.signal(number, signal.SIG_IGN)
 
 

@@ -7,12 +7,15 @@ import os
 import re
 import stat
 import sys
-from typing import Dict, Iterable, List, Optional, Sequence
+from typing import TYPE_CHECKING, Dict, Iterable, List, Optional, Sequence
 
 from .arguments import READS
 from .checks import END_BLOCK, beginning, lacks_end, other_format
 from .faults import Fault, reason, write_all
 from .tools import which
+
+if TYPE_CHECKING:
+    from .arguments import Arguments
 
 # A named pipe is opened by a shell, which waits for its writer.
 FROM_PIPE = ["sh", "-c", 'exec "$@" < "$0"']
@@ -206,6 +209,16 @@ class Side:
 
     def files(self) -> str:
         return " ".join(self.names)
+
+
+def sides_of(arguments: "Arguments") -> List[Side]:
+    """The inputs of one interleaved side, or of two sides."""
+    sides = [Side("forward", arguments.both or arguments.forward)]
+    if not arguments.both:
+        sides.append(Side("reverse", arguments.reverse))
+    for side in sides if arguments.pairs else ():
+        side.left = (arguments.pairs or 0) * (2 if arguments.both else 1)
+    return sides
 
 
 class Output:

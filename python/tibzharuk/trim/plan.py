@@ -13,15 +13,10 @@ from .tools import Tools
 OURS = ("report", "html", "cutadapt-report", "cutadapt-log", "summary", CHECKSUMS)
 # A device is opened by the child, since opening may have to wait.
 TO_DEVICE = ("sh", "-c", 'exec "$@" > "$0"')
-# Runs the user's command, and then looks whether it has read all pairs: one that ends well before
-# their end has not used the others.
-THROUGH = ("sh", "-c", """bash -o pipefail -c "$1" || exit
-if [ -n "$(head -c 1)" ]; then
-  echo 'its command ended before it had read all pairs' >&2
-  exit 1
-fi""", "sh")
+THROUGH = ("bash", "-o", "pipefail", "-c")   # runs the user's command
 # Pipes whose text this process keeps.
 PRINTED, COUNTED = "summary", "report"
+FLAGS = "flags"         # what samtools counts of a BAM file, after it was made
 CUTADAPT_COUNTED, CUTADAPT_PRINTED = "cutadapt-report", "cutadapt-log"
 KEPT = (PRINTED, COUNTED, CUTADAPT_COUNTED, CUTADAPT_PRINTED)
 TRIMMED = "trimmed"     # from cutadapt to the program
@@ -58,6 +53,7 @@ class Start(NamedTuple):
     words: Tuple[Word, ...]
     stdin: Stream = None
     stdout: Stream = None
+    is_users: bool = False  # a command of the user: what it prints on standard error isn't kept
 
 
 def plan(arguments: Arguments, tools: Tools, sides: Sequence[Side], outputs: Dict[str, Output],
@@ -87,7 +83,7 @@ def writers(arguments: Arguments, tools: Tools, output: Output) -> List[Start]:
         return [writer(output, ["cat"], End(between, False)),
                 Start(output.role, tuple(words), source, End(between, True))]
     if output.role == "interleaved" and arguments.through:
-        return [writer(output, [*THROUGH, arguments.through], source)]
+        return [writer(output, [*THROUGH, arguments.through], source)._replace(is_users=True)]
     return [writer(output, ["cat"], source)]
 
 
@@ -121,6 +117,12 @@ def trimmer_of_adapters(options: Sequence[str], threads: int, sources: Sequence[
     words: List[Word] = ["cutadapt", *options, "-j", str(threads), "--interleaved"]
     words += ["--json", End(CUTADAPT_COUNTED, True), "-o", End(TRIMMED, True), *sources]
     return Start("cutadapt", tuple(words), None, End(CUTADAPT_PRINTED, True))
+
+
+def counter(threads: int, role: str) -> Start:
+    """What counts the records of a BAM file, after all is well."""
+    words = ("samtools", "flagstat", "-@", str(threads), Made(role))
+    return Start("samtools", words, None, End(FLAGS, True))
 
 
 def program(arguments: Arguments, outputs: Dict[str, Output], sources: Sequence[End]) -> Start:

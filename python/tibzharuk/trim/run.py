@@ -7,7 +7,7 @@ import signal
 import time
 from typing import Dict, List, NoReturn, Optional, Sequence, Tuple
 
-from . import faults
+from . import faults, records
 from .arguments import CHECKSUMS, Arguments, HelpAsked
 from .checks import check_interleaved, check_lanes, no_end
 from .checksums import checksums
@@ -15,14 +15,15 @@ from .children import Ended, Family, Pipes
 from .cutadapt import KEEPS_BUFFERS, Cutadapt
 from .faults import Fault, Stopped, reason, say, signal_name, warn, write_all
 from .first_records import copied
-from .files import Output, Side, check_inputs, give_names, readable, take_names_back
+from .files import (Output, Side, check_inputs, give_names, readable, sides_of, take_names_back,
+                    with_names)
 from .known_adapters import taken_by_auto, word_on_adapters, word_on_scores
-from .plan import (COUNTED, CUTADAPT_COUNTED, CUTADAPT_PRINTED, KEPT, PRINTED, TRIMMED, End, Lane,
-                   Made, Start, Stream, Word, lane, plan, shown)
+from .plan import (COUNTED, CUTADAPT_COUNTED, CUTADAPT_PRINTED, FLAGS, KEPT, PRINTED, TRIMMED, End,
+                   Lane, Made, Start, Stream, Word, counter, lane, plan, shown)
 from .progress import Progress
 from .report import counts_of, of_call, page_of, sample_name
 from .tools import Tools, which
-from .verdict import CutadaptEnd, Ends, SideEnd, needs_more, verdict
+from .verdict import CutadaptEnd, Ends, SideEnd, needs_more, verdict, why_of_command
 
 SECONDS_TO_READ_ON = 5
 NO_END = b"EOF marker is absent"    # what bgzip prints
@@ -48,7 +49,11 @@ class Run:
         self.progress = Progress(arguments.progress, inputs)
         # How the program and cutadapt ended, by their roles.
         self.ends: Dict[str, Ended] = {}
+        self.writer: Optional[Fault] = None     # of an output, after the program had written it
         self.without_end: List[str] = []        # inputs that may be cut
+        # What is written at once, and can't be taken back.
+        self.streams = [each.name for each in self.outputs.values()
+                        if each.is_device and each.name != os.devnull]
 
     def go(self) -> None:
         """Makes all outputs, or none."""
@@ -65,6 +70,11 @@ class Run:
         except Stopped:
             self.clean()
             self.stop(self.family.first_signal or signal.SIGTERM)
+        except Fault as fault:
+            # Before the others no read is written.
+            if self.streams and fault.status > 2:
+                raise Fault(fault.status, f"{fault.line}; {self.what_is_left()}")
+            raise
         finally:
             self.clean()
 
@@ -85,11 +95,7 @@ class Run:
         wrong."""
         arguments = self.arguments
         check_inputs(arguments.inputs())
-        self.sides = [Side("forward", arguments.both or arguments.forward)]
-        if not arguments.both:
-            self.sides.append(Side("reverse", arguments.reverse))
-        for side in self.sides if arguments.pairs else ():
-            side.left = (arguments.pairs or 0) * (2 if arguments.both else 1)
+        self.sides = sides_of(arguments)
         for role, name in arguments.outputs_in_order():
             output = Output(role, name)
             output.check(arguments.files_that_are_read(), self.outputs.values())
@@ -100,6 +106,8 @@ class Run:
             if each.look():
                 no_end(each.name, arguments.needs_end)
             each.check_tool(self.tools.decompressor)
+        if arguments.through:
+            self.check_command(self.outputs["interleaved"])
         if arguments.checks_names:
             check_lanes(arguments.forward, arguments.reverse)
             check_interleaved(arguments.both)
@@ -113,6 +121,17 @@ class Run:
         self.arguments.take(name)
         self.tools = Tools(self.arguments)  # how hard to compress depends on whether cutadapt runs
         say(f"--adapters auto takes {name}: {why}")
+
+    def check_command(self, output: Output) -> None:
+        """Refuses the user's command if what runs it, or counts its records, isn't installed."""
+        if not which("bash"):
+            raise Fault(1, "no program bash (--through)")
+        if not self.arguments.expects_pairs:
+            return
+        if output.is_device:
+            raise Fault(1, f"--expect-pairs needs a file, and {output.name} isn't one")
+        if not output.name.lower().endswith(".sam") and not which("samtools"):
+            raise Fault(1, "no program samtools (--expect-pairs)")
 
     def plan(self) -> List[Start]:
         options = self.cutadapt.options if self.cutadapt else None
@@ -129,6 +148,8 @@ class Run:
             side.current().open()
         if self.cutadapt:
             self.pipes.make(TRIMMED, False, True)
+        if self.arguments.through:
+            self.pipes.make("interleaved", True)    # to see whether all of it was read
         for name in KEPT:
             self.pipes.keep_text(name)
         for start in self.plan():
@@ -139,8 +160,8 @@ class Run:
         passed = [self.pipes.fd(*word) for word in start.words if isinstance(word, End)]
         words = [self.text(word) for word in start.words]
         usual = KEEPS_BUFFERS.items() if start.role == "cutadapt" else ()
-        self.family.start(
-            start.role, words, self.fd(start.stdin), self.fd(start.stdout), passed, usual)
+        self.family.start(start.role, words, self.fd(start.stdin), self.fd(start.stdout), passed,
+                          usual, start.is_users)
 
     def text(self, word: Word) -> str:
         """A word as the process gets it."""
@@ -235,18 +256,22 @@ class Run:
             self.without_end.append(each.name)
 
     def end_writer(self, output: Output, end: Ended) -> None:
-        if end.status == 0:
-            return
-        if output.is_device and end.met_closed_pipe():
+        """Ends the run if an output wasn't written."""
+        if output.role == "interleaved" and self.arguments.through:
+            self.end_command(output, end)
+        elif end.status and output.is_device and end.met_closed_pipe():
             raise output.fault("its reader has ended")
-        if self.is_through(output) and end.said.count(b"\n") > 1:
-            self.progress.wipe()
-            write_all(2, end.said)
-        raise output.fault(end.why())
+        elif end.status:
+            raise output.fault(end.why())
 
-    def is_through(self, output: Output) -> bool:
-        """Whether the user's command writes it."""
-        return output.role == "interleaved" and self.arguments.through is not None
+    def end_command(self, output: Output, end: Ended) -> None:
+        """The same of the user's command. If the program had closed its pipe before, the verdict
+        comes first: that a damaged input ended early may be why the command failed."""
+        has_more, is_open = self.pipes.left(output.role)
+        why = why_of_command(end, not has_more and not is_open, output.is_device)
+        if why and is_open:
+            raise output.fault(why)
+        self.writer = output.fault(why) if why else None
 
     # The verdict.
 
@@ -259,8 +284,35 @@ class Run:
         if fault and ends.program.status == 1:
             self.progress.wipe()
             write_all(2, ends.program.said)
+        if fault and ends.cutadapt and fault is ends.cutadapt.fault:
+            self.look_for_record(fault)
         if fault:
             raise fault
+
+    def look_for_record(self, fault: Fault) -> None:
+        """Reads the inputs again, without cutadapt, and ends the run if the program finds a fault
+        in them: it names the file and the record, which cutadapt doesn't."""
+        is_stricter = self.cutadapt is None or self.cutadapt.is_stricter(fault.line)
+        has_pipes = any(each.size is None for side in self.sides for each in side.inputs)
+        if fault.status != 3 or is_stricter or has_pipes:
+            return
+        self.family.end_all()
+        self.family.children.clear()
+        for output in self.outputs.values():
+            output.forget()
+        self.arguments, self.cutadapt = self.arguments.into_nowhere(), None
+        self.sides = sides_of(self.arguments)
+        self.outputs = {role: Output(role, name)
+                        for role, name in self.arguments.outputs_in_order()}
+        self.ends.clear()
+        self.pipes = Pipes(self.family)
+        try:
+            self.start_all()
+            self.follow()
+            self.judge()
+        except Fault as found:
+            if found.status == 3:
+                raise
 
     def all_ends(self) -> Ends:
         cutadapt = None
@@ -270,19 +322,19 @@ class Run:
                                self.pipes.text(CUTADAPT_COUNTED), self.pipes.text(CUTADAPT_PRINTED))
             cutadapt = CutadaptEnd(child, self.cutadapt.fault(child), self.cutadapt.passed())
         sides = [SideEnd(side.is_whole, side.fault) for side in self.sides]
-        return Ends(self.ends["program"], self.arguments.program, sides, self.pairs_taken(),
-                    cutadapt, self.names())
+        return Ends(self.ends["program"], self.arguments.program, sides,
+                    self.counted("Input Read Pairs"), cutadapt, self.names(), self.writer)
 
-    def pairs_taken(self) -> Optional[int]:
-        """How many pairs the program read, as its summary says."""
-        found = re.match(rb"Input Read Pairs: (\d+)", self.pipes.text(PRINTED))
+    def counted(self, label: str) -> Optional[int]:
+        """How many pairs the program read, or kept, as its summary says."""
+        found = re.search(rb"^%s: (\d+)$" % label.encode(), self.pipes.text(PRINTED), re.MULTILINE)
         return int(found.group(1)) if found else None
 
     def pairs_read(self) -> Optional[int]:
         """How many pairs were taken from the inputs."""
         if self.cutadapt:
             return int(self.cutadapt.counted()["read_counts"]["input"])
-        return self.pairs_taken()
+        return self.counted("Input Read Pairs")
 
     def read_on(self) -> None:
         """Decompresses the files for some seconds more after a fault in a text."""
@@ -309,6 +361,11 @@ class Run:
             child = self.family.next_end()
             if child.name in self.outputs:
                 self.end_writer(self.outputs[child.name], child.ended())
+        if self.writer:
+            raise self.writer
+        self.streams.clear()    # they are complete
+        if self.arguments.through:
+            self.check_result(self.outputs["interleaved"])
         self.progress.wipe()
         self.warn()
         texts = self.own_texts()
@@ -333,6 +390,33 @@ class Run:
         return [output for role, output in self.outputs.items()
                 if role != CHECKSUMS and not output.is_device]
 
+    def check_result(self, output: Output) -> None:
+        """Refuses what the user's command made, if it is nothing, or, if the user wants to know,
+        not the records of all pairs."""
+        pairs = self.counted("Both Surviving") or 0
+        if output.fd is None or not output.hidden:
+            return
+        if pairs and not os.fstat(output.fd).st_size:
+            raise output.fault("its command wrote nothing")
+        if self.arguments.expects_pairs:
+            why = records.why_not(pairs, self.records_in(output))
+            if why:
+                raise output.fault(why)
+
+    def records_in(self, output: Output) -> Optional[records.Primary]:
+        """The primary records of a SAM file, or of one that samtools counts."""
+        with open(output.written(), "rb") as file, self.family.heeding_signals():
+            if not file.peek().startswith(records.PACKED):
+                return records.of_sam(file)
+        self.pipes.keep_text(FLAGS)
+        self.start(counter(self.tools.threads, output.role))
+        self.pipes.let_go()
+        end = self.family.next_end().ended()
+        if end.status:
+            why = with_names(end.why(), {output.written(): output.name})
+            raise Fault(4, f"samtools: {why}")
+        return records.of_flagstat(self.pipes.text(FLAGS).decode())
+
     def warn(self) -> None:
         """Says what may be wrong, although all went well."""
         for name in self.arguments.inputs():
@@ -342,9 +426,9 @@ class Run:
             warn(f"only the first pairs were trimmed (--pairs {self.arguments.pairs})")
         if self.cutadapt and self.cutadapt.removed_all():
             warn("cutadapt removed all pairs")
-        elif self.pairs_taken() == 0:
+        elif self.counted("Input Read Pairs") == 0:
             warn("the inputs have no pairs")
-        elif re.search(rb"\nDropped: %d\n" % (self.pairs_taken() or 0), self.pipes.text(PRINTED)):
+        elif self.counted("Input Read Pairs") == self.counted("Dropped"):
             warn("all pairs were dropped")
 
     def summary(self) -> Tuple[bytes, bytes]:
@@ -406,11 +490,10 @@ class Run:
 
     def what_is_left(self) -> str:
         """What became of the outputs after a stop or a fault. A stream can't be taken back."""
-        streams = [each.name for each in self.outputs.values()
-                   if each.is_device and each.name != os.devnull]
-        if not streams:
+        if not self.streams:
             return "no output was made"
-        return f"what was written to {' and '.join(streams)} is incomplete: discard what uses it"
+        named = " and ".join(self.streams)
+        return f"what was written to {named} is incomplete: discard what was made of it"
 
 
 def run(arguments: Arguments) -> None:

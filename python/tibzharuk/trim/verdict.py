@@ -3,9 +3,11 @@
 Its order is what matters. A program that ends at a fault makes its neighbours fail, so several end
 badly at once, and the one line that the user reads must name the first cause. A damaged input comes
 before what the program made of its text; cutadapt comes before the program, which met its end; and
-a program that ended well isn't believed unless all of the inputs were read.
+a program that ended well isn't believed unless all of the inputs were read. The user's command
+comes last: its fault is here only if the program had closed its pipe before.
 """
 
+import signal
 from typing import Dict, NamedTuple, Optional, Sequence
 
 from .children import Ended
@@ -37,6 +39,7 @@ class Ends(NamedTuple):
     taken: Optional[int]    # the pairs that the program read, as its summary says
     cutadapt: Optional[CutadaptEnd] = None
     names: Dict[str, str] = {}  # the user's, by those that the program got
+    writer: Optional[Fault] = None  # of an output, after the program had written all of it
 
     def options_are_refused(self) -> bool:
         """Whether cutadapt ended because it doesn't accept its options."""
@@ -69,7 +72,8 @@ def verdict(ends: Ends) -> Optional[Fault]:
         return Fault(status, with_names(lines[-1], ends.names))
     if ends.taken is None or not all(side.is_whole for side in ends.sides):
         return Fault(4, f"{ends.name} ended before it had read its inputs")
-    return of_counts(ends.cutadapt, ends.taken) if ends.cutadapt else None
+    fault = of_counts(ends.cutadapt, ends.taken) if ends.cutadapt else None
+    return fault or ends.writer
 
 
 def of_inputs(ends: Ends) -> Optional[Fault]:
@@ -90,3 +94,16 @@ def of_counts(cutadapt: CutadaptEnd, taken: int) -> Optional[Fault]:
         return Fault(
             4, f"cutadapt passed on {cutadapt.passed} pairs, but fq_prog read another number")
     return None
+
+
+def why_of_command(end: Ended, has_read_all: bool, is_read: bool) -> Optional[str]:
+    """Why the user's command failed, or None. `is_read`: another program reads what it writes."""
+    number = -end.status if end.status < 0 else end.status - 128
+    if number == signal.SIGPIPE and is_read:
+        return "its reader has ended"
+    if end.status < 0:
+        return f"its command was ended by {signal_name(number)}"
+    if end.status:
+        by = f" ({signal_name(number)})" if number in signal.valid_signals() else ""
+        return f"its command ended with status {end.status}{by}"
+    return None if has_read_all else "its command ended before it had read all pairs"
