@@ -115,7 +115,7 @@ def test_nothing_is_whole_unless_all_are(program):
     for sides, cutadapt, writer, taken in itertools.product(
             SIDES, CUTADAPTS, (None, MAPPER), (None, 7)):
         given = ends(program, sides, taken, cutadapt, writer)
-        is_whole = (program == OK and sides == (GOOD, GOOD) and taken == 7
+        is_whole = (program.status == 0 and sides == (GOOD, GOOD) and taken == 7
                     and cutadapt in (None, clean()) and writer is None)
         fault = verdict(given)
         assert (fault is None) == is_whole
