@@ -10,15 +10,15 @@ _tibzharuk_known() {
     trim)
       several='-1 -2 -i'
       with_file='--out --paired1 --unpaired1 --paired2 --unpaired2 --interleaved --summary --trimlog --report --html --adapters --cutadapt-report --cutadapt-log --program'
-      with_value='--through --cutadapt -t --threads --compressor --level --compress-threads --decompressor --encoding --block --depth --chunk'
-      flags='--no-unpaired --no-report --poly-g --need-end --progress --no-progress -h --help --dry-run -V --version --no-name-check --sync'
+      with_value='--through --cutadapt --pairs -t --threads --compressor --level --compress-threads --decompressor --encoding --block --depth --chunk'
+      flags='--checksums --no-unpaired --no-report --expect-pairs --poly-g --need-end --progress --no-progress -h --help --dry-run -V --version --no-name-check --sync'
       steps='LEADING: TRAILING: SLIDINGWINDOW: CROP: HEADCROP: AVGQUAL: MINLEN: TOPHRED33'
       files=0
       ;;
     PE)
       with_file='-trimlog -summary -basein -baseout --out --summary --trimlog --report --html --adapters --cutadapt-report --cutadapt-log --program'
-      with_value='-threads --cutadapt --threads --compressor --level --compress-threads --decompressor --encoding --block --depth --chunk'
-      flags='-phred33 -phred64 -quiet -validatePairs --no-report --poly-g --need-end --progress --no-progress --help --dry-run --version --no-name-check --sync'
+      with_value='-threads --cutadapt --pairs --threads --compressor --level --compress-threads --decompressor --encoding --block --depth --chunk'
+      flags='-phred33 -phred64 -quiet -validatePairs --checksums --no-report --poly-g --need-end --progress --no-progress --help --dry-run --version --no-name-check --sync'
       steps='ILLUMINACLIP: LEADING: TRAILING: SLIDINGWINDOW: CROP: HEADCROP: AVGQUAL: MINLEN: TOPHRED33'
       files=6
       ;;
@@ -31,7 +31,7 @@ _tibzharuk_known() {
       flags='-h --help'
       ;;
     samples)
-      flags='-h --help'
+      flags='-h --help --by-run'
       ;;
   esac
   case $previous in

@@ -13,9 +13,9 @@ end
 function __tibzharuk_valued
     switch $argv[1]
         case trim
-            printf '%s\n' --out --paired1 --unpaired1 --paired2 --unpaired2 --interleaved --through --summary --trimlog --report --html --adapters --cutadapt --cutadapt-report --cutadapt-log -t --threads --compressor --level --compress-threads --decompressor --program --encoding --block --depth --chunk
+            printf '%s\n' --out --paired1 --unpaired1 --paired2 --unpaired2 --interleaved --through --summary --trimlog --report --html --adapters --cutadapt --cutadapt-report --cutadapt-log --pairs -t --threads --compressor --level --compress-threads --decompressor --program --encoding --block --depth --chunk
         case PE
-            printf '%s\n' -threads -trimlog -summary -basein -baseout --out --summary --trimlog --report --html --adapters --cutadapt --cutadapt-report --cutadapt-log --threads --compressor --level --compress-threads --decompressor --program --encoding --block --depth --chunk
+            printf '%s\n' -threads -trimlog -summary -basein -baseout --out --summary --trimlog --report --html --adapters --cutadapt --cutadapt-report --cutadapt-log --pairs --threads --compressor --level --compress-threads --decompressor --program --encoding --block --depth --chunk
         case page
             printf '%s\n' --sample --cutadapt --lane
         case sum
@@ -115,6 +115,7 @@ complete -c tibzharuk -n '__tibzharuk_wants option trim' -s 1 -rF -d 'forward an
 complete -c tibzharuk -n '__tibzharuk_wants option trim' -s 2 -rF -d 'forward and reverse reads'
 complete -c tibzharuk -n '__tibzharuk_wants option trim' -s i -rF -d 'interleaved reads, forward first'
 complete -c tibzharuk -n '__tibzharuk_wants option trim' -l out -rF -d 'names all outputs that have no name of their own'
+complete -c tibzharuk -n '__tibzharuk_wants option trim' -l checksums -d 'pREFIX.sha256 too, with the checksums of all outputs that are files, for sha256sum -c in its directory'
 complete -c tibzharuk -n '__tibzharuk_wants option trim' -l no-unpaired -d 'unpaired reads go to /dev/null, unless they are named'
 complete -c tibzharuk -n '__tibzharuk_wants option trim' -l no-report -d '--out names no report and no page'
 complete -c tibzharuk -n '__tibzharuk_wants option trim' -l paired1 -rF -d 'forward reads whose mate survives too'
@@ -123,6 +124,7 @@ complete -c tibzharuk -n '__tibzharuk_wants option trim' -l paired2 -rF -d 'reve
 complete -c tibzharuk -n '__tibzharuk_wants option trim' -l unpaired2 -rF -d 'reverse reads whose mate is dropped'
 complete -c tibzharuk -n '__tibzharuk_wants option trim' -l interleaved -rF -d 'both mates of a pair in turn, in place of --paired1 and --paired2'
 complete -c tibzharuk -n '__tibzharuk_wants option trim' -l through -x -d 'what writes the file of --interleaved'
+complete -c tibzharuk -n '__tibzharuk_wants option trim' -l expect-pairs -d 'refuse that file, SAM or BAM, unless it has one primary record of each mate that the command was given, mapped or not'
 complete -c tibzharuk -n '__tibzharuk_wants option trim' -l summary -rF -d 'the summary, as a file too'
 complete -c tibzharuk -n '__tibzharuk_wants option trim' -l trimlog -rF -d 'a line for each read'
 complete -c tibzharuk -n '__tibzharuk_wants option trim' -l report -rF -d 'counts of pairs, reads, bases and steps as JSON, with the names of these files and what cutadapt removed'
@@ -133,6 +135,7 @@ complete -c tibzharuk -n '__tibzharuk_wants option trim' -l cutadapt -x -d 'more
 complete -c tibzharuk -n '__tibzharuk_wants option trim' -l cutadapt-report -rF -d 'what cutadapt counted, as JSON'
 complete -c tibzharuk -n '__tibzharuk_wants option trim' -l cutadapt-log -rF -d 'what cutadapt printed, which MultiQC reads'
 complete -c tibzharuk -n '__tibzharuk_wants option trim' -l need-end -d 'refuse a file whose BGZF lacks its end block, since it may be cut'
+complete -c tibzharuk -n '__tibzharuk_wants option trim' -l pairs -x -d 'trim only the first N pairs of all lanes together, to try settings'
 complete -c tibzharuk -n '__tibzharuk_wants option trim' -s t -l threads -x -d 'threads, 1 to 64'
 complete -c tibzharuk -n '__tibzharuk_wants option trim' -l compressor -x -a 'bgzip pigz gzip igzip' -d 'bgzip, pigz, gzip or igzip'
 complete -c tibzharuk -n '__tibzharuk_wants option trim' -l level -x -d 'how hard to compress'
@@ -161,6 +164,7 @@ complete -c tibzharuk -n '__tibzharuk_wants option PE' -o validatePairs
 complete -c tibzharuk -n '__tibzharuk_wants option PE' -o basein -rF
 complete -c tibzharuk -n '__tibzharuk_wants option PE' -o baseout -rF
 complete -c tibzharuk -n '__tibzharuk_wants option PE' -l out -rF -d 'names all outputs that have no name of their own'
+complete -c tibzharuk -n '__tibzharuk_wants option PE' -l checksums -d 'pREFIX.sha256 too, with the checksums of all outputs that are files, for sha256sum -c in its directory'
 complete -c tibzharuk -n '__tibzharuk_wants option PE' -l no-report -d '--out names no report and no page'
 complete -c tibzharuk -n '__tibzharuk_wants option PE' -l summary -rF -d 'the summary, as a file too'
 complete -c tibzharuk -n '__tibzharuk_wants option PE' -l trimlog -rF -d 'a line for each read'
@@ -172,6 +176,7 @@ complete -c tibzharuk -n '__tibzharuk_wants option PE' -l cutadapt -x -d 'more o
 complete -c tibzharuk -n '__tibzharuk_wants option PE' -l cutadapt-report -rF -d 'what cutadapt counted, as JSON'
 complete -c tibzharuk -n '__tibzharuk_wants option PE' -l cutadapt-log -rF -d 'what cutadapt printed, which MultiQC reads'
 complete -c tibzharuk -n '__tibzharuk_wants option PE' -l need-end -d 'refuse a file whose BGZF lacks its end block, since it may be cut'
+complete -c tibzharuk -n '__tibzharuk_wants option PE' -l pairs -x -d 'trim only the first N pairs of all lanes together, to try settings'
 complete -c tibzharuk -n '__tibzharuk_wants option PE' -l threads -x -d 'threads, 1 to 64'
 complete -c tibzharuk -n '__tibzharuk_wants option PE' -l compressor -x -a 'bgzip pigz gzip igzip' -d 'bgzip, pigz, gzip or igzip'
 complete -c tibzharuk -n '__tibzharuk_wants option PE' -l level -x -d 'how hard to compress'
@@ -201,4 +206,5 @@ complete -c tibzharuk -n '__tibzharuk_wants option sum' -l unpaired2 -rF -d 'the
 complete -c tibzharuk -n '__tibzharuk_wants option sum' -l trimlog -rF -d 'the name of the joined trim log'
 complete -c tibzharuk -n '__tibzharuk_wants option sum' -l summary -rF -d 'write the summary of all to this file'
 complete -c tibzharuk -n '__tibzharuk_wants option samples' -s h -l help -d 'show this help message and exit'
+complete -c tibzharuk -n '__tibzharuk_wants option samples' -l by-run -d 'begin the name of each lane with that of its run'
 # end of command-for-fish

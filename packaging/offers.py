@@ -19,7 +19,7 @@ FILES = ('FILE', 'OUT', 'PATH', 'PREFIX', 'WHAT', 'LANE')
 BEFORE_STEPS = {'trim': 0, 'PE': 6}
 # Options of trim for what PE names in another way.
 OF_TRIM_ALONE = ('--paired1', '--unpaired1', '--paired2', '--unpaired2', '--no-unpaired',
-                 '--interleaved', '--through')
+                 '--interleaved', '--through', '--expect-pairs')
 # A name of an option with the words for its values.
 NAMED = r"-[-0-9A-Za-z]+(?: '?[A-Z]+'?(?:\.\.)?)*"
 

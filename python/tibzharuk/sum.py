@@ -42,7 +42,8 @@ OUTPUTS = {
 # What must be the same in all reports. Some have no `schema`, and some no `adapters_auto`.
 SAME = ("schema", "program", "version", "command", "encoding", "name_check", "adapters_auto")
 ADDED = (
-    "adapters", "inputs", "outputs", "outcome", "fault", "pairs", "reads", "steps", "warnings")
+    "adapters", "inputs", "outputs", "outcome", "fault", "pairs", "reads", "steps", "through",
+    "warnings")
 SUMMARY = {
     "input": "Input Read Pairs",
     "both_surviving": "Both Surviving",
@@ -142,9 +143,9 @@ def added(first: Report, second: Report) -> Report:
     if "adapters" in first or "adapters" in second:
         both_of = (report.get("adapters") for report in (first, second))
         of_trim["adapters"] = added_adapters(*both_of)
-    if "warnings" in first or "warnings" in second:
-        told = first.get("warnings", []) + second.get("warnings", [])
-        of_trim["warnings"] = list(dict.fromkeys(told))
+    for name in "warnings", "through":
+        if name in first or name in second:
+            of_trim[name] = list(dict.fromkeys(first.get(name, []) + second.get(name, [])))
     return dict(
         first,
         **of_trim,

@@ -20,7 +20,7 @@ TREE = os.path.dirname(os.path.dirname(os.path.dirname(os.path.abspath(__file__)
 READS = ("forward_paired", "forward_unpaired", "reverse_paired", "reverse_unpaired")
 PAIRS = ("input", "both_surviving", "forward_only_surviving", "reverse_only_surviving", "dropped")
 PARTS = ("before", "paired", "unpaired")
-OPTIONAL = ({"adapters"}, {"adapters_auto"}, {"first_pairs"}, {"warnings"})
+OPTIONAL = ({"adapters"}, {"adapters_auto"}, {"first_pairs"}, {"through"}, {"warnings"})
 wrong = []
 
 
@@ -145,6 +145,7 @@ def of_command(report):
         several[part] = {name: [value, f"more {value}"] for name, value in several[part].items()}
     several["adapters_auto"] = "none"
     several["first_pairs"] = 5
+    several["through"] = ["bwa mem -p genome.fa -"]
     several["warnings"] = ["f may be cut", "all pairs were dropped"]
     several["adapters"] = {
         "program": "cutadapt",

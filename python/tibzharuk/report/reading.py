@@ -185,6 +185,7 @@ REPORT = fields(
         "adapters": or_null(ADAPTERS),
         "adapters_auto": text,
         "first_pairs": count,
+        "through": each(text),
         "warnings": each(text),
     },
 )

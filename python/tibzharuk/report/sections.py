@@ -215,6 +215,8 @@ def run_entries(report: Report, adapters: str) -> List[Entry]:
         entries.append(("adapters", [adapters]))
     if "adapters_auto" in report:
         entries.append(("taken by --adapters auto", [report["adapters_auto"]]))
+    if "through" in report:
+        entries.append(("pairs read by", report["through"]))
     for part in "inputs", "outputs":
         for name, value in report[part].items():
             files = value if isinstance(value, list) else [value] if value is not None else []

@@ -63,7 +63,11 @@ INPUTS AND OUTPUTS
     --through 'COMMAND'    what writes the file of --interleaved: a mapper,
                            which reads the pairs from its standard input, to
                            their end. If it fails, or anything else does, there
-                           is no file
+                           is no file. bash runs it with pipefail, and what it
+                           prints on standard error is printed there
+    --expect-pairs         refuse that file, SAM or BAM, unless it has one
+                           primary record of each mate that the command was
+                           given, mapped or not. samtools counts those of BAM
     --summary OUT          the summary, as a file too
     --trimlog OUT          a line for each read (see fq_prog PE --help)
     --report OUT           counts of pairs, reads, bases and steps as JSON, with
@@ -141,9 +145,10 @@ EXIT STATUS
     If fq_prog fails, the command ends with the same status, and prints the line
     of fq_prog with its reason (--explain), in which the inputs and outputs have
     the names that you gave. At each status but 0 the last line on standard
-    error says why (at 1 there may be more), and no output is made. Lines that
-    begin with 'tibzharuk: warning:' say what may be wrong with the inputs, at
-    any status.
+    error says why (at 1 there may be more), and no output is made. If an output
+    is a stream, the line also says that what was written to it is incomplete.
+    Lines that begin with 'tibzharuk: warning:' say what may be wrong with the
+    inputs, at any status.
     0      success
     1      unknown, missing or wrong arguments; a program that isn't installed
     2      a bad encoding, step or name, or a number that fq_prog refuses; a

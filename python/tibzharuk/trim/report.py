@@ -68,7 +68,7 @@ def of_call(counts: Dict[str, Any], arguments: Arguments,
         name = arguments.outputs.get(arguments.written_as(role))
         report["outputs"][field] = None if name is None else readable(name)
     if arguments.through:
-        report["through"] = readable(arguments.through)
+        report["through"] = [readable(arguments.through)]
     text = json.dumps(report, ensure_ascii=False, sort_keys=True, separators=(",", ":"))
     return (text + "\n").encode()
 
