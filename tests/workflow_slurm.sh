@@ -20,12 +20,12 @@ if [ "$profile" = slurm-v8 ] && ! snakemake --executor cluster-generic --help > 
   echo "$this: slurm: skipped: needs snakemake-executor-plugin-cluster-generic"
 elif start_slurm; then
   a_whole_life "$profile"
-  jobs=$(find logs/slurm -name 'trim.s4.*.log' | wc -l)
+  jobs=$(find logs/slurm -name 'trim.sample=s4.*.log' | wc -l)
   [ "$jobs" -eq 3 ] || fail "$jobs jobs of Slurm for s4, not 3"
   cluster_scripts
   new_lab cluster_lanes
   by_lane "$profile"
-  jobs=$(find logs/slurm -name 'trim_lane.s1.*.log' | wc -l)
+  jobs=$(find logs/slurm -name 'trim_lane.lane=L00?,sample=s1.*.log' | wc -l)
   [ "$jobs" -eq 3 ] || fail "$jobs jobs of Slurm for the lanes of s1, not 3"
   stop_slurm
 else

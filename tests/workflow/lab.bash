@@ -91,15 +91,24 @@ call() {
 }
 
 # ran NUMBER [LANES [JOINED]]: that many samples were trimmed in one job, that many lanes in a job
-# each, and the lanes of that many samples joined
+# each, and the lanes of that many samples joined, by Snakemake's log
 ran() {
-  local rule wanted got
-  for rule in trim trim_lane join_lanes; do
+  local said wanted got log
+  log=$(find .snakemake/log -name '*.snakemake.log' | sort | tail -n 1)
+  for said in 'trim [^ ,]*' 'trim [^ ,]*, lane .*' 'join the lanes of .*'; do
     wanted=${1:-0}
     [ $# -eq 0 ] || shift
-    got=$(grep -cE "^rule (tibzharuk_)?$rule:" said)
-    [ "$got" -eq "$wanted" ] || fail "$rule ran $got times, not $wanted"
+    got=$(grep -cE "^Job [0-9]+: $said\$" "$log")
+    [ "$got" -eq "$wanted" ] || fail "there were $got jobs '$said', not $wanted"
   done
+}
+
+# one_line_a_job: each job that ended well has one line, and no line is longer than some
+one_line_a_job() {
+  local ended
+  ended=$(grep -c '^Finished job' "$(find .snakemake/log -name '*.snakemake.log' | sort | tail -n 1)")
+  [ "$(grep -cE '^[0-9:]{8} [0-9]+ of [0-9]+ done: ' said)" -eq "$ended" ] || fail "not one line for each of $ended jobs"
+  [ "$(awk 'length > 800' said | wc -l)" -eq 0 ] || fail "a line of $(wc -L < said) characters"
 }
 
 # same_as_direct SAMPLES..: all their files hold what direct calls made
@@ -185,6 +194,8 @@ a_whole_life() {
   row="$1: a damaged sample"
   call 1 --profile "profiles/$1"
   ran 4
+  one_line_a_job
+  [[ $(tail -n 1 said) == 'results/report.html: 3 of 4 samples are good; failed: s4 (tibzharuk: '*')' ]] || fail "the last line is $(tail -n 1 said)"
   same_as_direct s1 s2 s3
   same_logs s1 s2 s3
   page_tells s1 s2 s3

@@ -7,12 +7,20 @@ from pathlib import Path
 from types import SimpleNamespace
 
 from snakemake.exceptions import WorkflowError
+from snakemake.logging import logger
 
 # Seen from this file, since `workflow.basedir` is that of a workflow which imports this one.
 HERE = Path(str(workflow.current_basedir)).parent
 sys.path.insert(0, str(HERE / "scripts"))
+import console
 from tables import Refused, check_adapters, check_settings, read_samples, try_settings
 from tibzharuk.report.settings import settings_lines
+
+# What Snakemake starts for a job, such as on a node, reads this file too.
+IS_FOR_A_JOB = "--target-jobs" in sys.argv
+# Another workflow that imports this one prints as it likes.
+if Path(str(workflow.basedir)) == HERE and not IS_FOR_A_JOB:
+    console.install(logger)
 
 TIBZHARUK = str(HERE.parent / "python" / "tibzharuk" / "__main__.py")
 
@@ -36,8 +44,7 @@ try:
     SAMPLES = read_samples(config["samples"], HERE / "schemas" / "samples.schema.yaml")
     ADAPTER_FILE = check_adapters(config["adapters"])
     OPTIONS = shlex.split(config["options"])
-    # What Snakemake starts for a job, such as on a node, reads this file too, and needn't try them again.
-    if "--target-jobs" not in sys.argv:
+    if not IS_FOR_A_JOB:
         try_settings(TIBZHARUK, config, OPTIONS)
 except Refused as why:
     raise WorkflowError(str(why))

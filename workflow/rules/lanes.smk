@@ -3,6 +3,8 @@
 
 
 rule trim_lane:
+    message:
+        "trim {wildcards.sample}, lane {wildcards.lane}"
     input:
         r1=lane("r1"),
         r2=lane("r2"),
@@ -36,6 +38,8 @@ rule trim_lane:
 
 # A .gz file may have several members, so `cat` joins them. The joined files are on the disk before those of the lanes go.
 rule join_lanes:
+    message:
+        "join the lanes of {wildcards.sample}"
     input:
         **{f"{kind}{read[1]}": parts(f".{read}.{kind}.fastq.gz") for read, kind in READS},
         reports=parts(".json"),

@@ -6,6 +6,8 @@ localrules:
 
 
 rule sample_page:
+    message:
+        "make the page of {wildcards.sample}"
     input:
         report=REPORT,
         lanes=parts(".json"),

@@ -17,6 +17,8 @@ TRIM = """
 
 
 rule trim:
+    message:
+        "trim {wildcards.sample}"
     input:
         r1=lanes("r1"),
         r2=lanes("r2"),

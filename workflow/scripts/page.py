@@ -22,6 +22,7 @@ PYTHON = HERE.parent.parent / "python"  # which has the module that MultiQC load
 sys.dont_write_bytecode = True
 sys.path.insert(0, str(PYTHON))
 
+from tibzharuk.report.overview import last_line  # noqa: E402
 from tibzharuk.report.reading import Refused, read_report  # noqa: E402
 from tibzharuk.report.settings import how_trimmed  # noqa: E402
 
@@ -247,14 +248,12 @@ def main():
     except (Refused, OSError) as why:
         print(f"page: {' '.join(str(why).split())}", file=sys.stderr)
         return 1
-    print(f"{words.results / 'report.html'}: {len(trimmed)} of {len(samples)} samples", file=sys.stderr)
     for name, lines in warnings.items():
         for line in lines:
             print(f"warning: {name}: {line}", file=sys.stderr)
     for name, why in failed.items():
         print(f"failed: {name}: {why}", file=sys.stderr)
-    for name in not_started:
-        print(f"not started: {name}", file=sys.stderr)
+    print(f"{words.results / 'report.html'}: {last_line(len(trimmed), failed, not_started)}", file=sys.stderr)
     return 0
 
 

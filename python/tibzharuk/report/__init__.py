@@ -10,4 +10,5 @@
     page        the whole page
     style.css   how it looks
     settings    how the workflow trimmed a sample
+    overview    what the workflow says of all samples
 """
