@@ -1,6 +1,6 @@
 #!/usr/bin/env bash
 # The container image of packaging/Containerfile, on a Debian 12 made by mmdebstrap. buildah builds
-# it twice with the same bytes. trim_gz in the image, run by buildah, and by Charliecloud from the
+# it twice with the same bytes. tibzharuk trim in the image, run by buildah, and by Charliecloud from the
 # unpacked archive, makes of compressed reads what the program here makes of the plain texts. Then
 # the package on a fresh Debian 12: its manual pages are found, and bash completes its commands.
 # FQ_PROG is the program, crates/fq_prog/out/fq_prog if not set. Status 77, and 'skipped', if a
@@ -17,7 +17,7 @@ version=${version#fq_prog }
 work=$(mktemp -d -p /var/tmp tibzharuk.XXXXXX) || exit 1
 trap 'rm -rf "$work"' EXIT
 steps=(LEADING:3 TRAILING:3 SLIDINGWINDOW:4:15 MINLEN:36)
-names=(-1 a_1.fq.gz -1 b_1.fq.gz -2 a_2.fq.gz -2 b_2.fq.gz --paired1 p1.fq.gz --unpaired1 u1.fq.gz --paired2 p2.fq.gz --unpaired2 u2.fq.gz --report r.json)
+names=(-1 a_1.fq.gz -1 b_1.fq.gz -2 a_2.fq.gz -2 b_2.fq.gz --paired1 p1.fq.gz --unpaired1 u1.fq.gz --paired2 p2.fq.gz --unpaired2 u2.fq.gz --report r.json --html r.html)
 
 # draw_reads: two lanes of 500 pairs, compressed and plain, and what the program makes of them
 draw_reads() {
@@ -75,15 +75,15 @@ run_by_buildah() {
     fail 'buildah does not take the archive'
     return
   }
-  in_buildah run --volume "$work/buildah:/data" "$container" -- trim_gz "${names[@]}" -- "${steps[@]}" > "$work/buildah/summary" || fail 'trim_gz fails in buildah'
+  in_buildah run --volume "$work/buildah:/data" "$container" -- tibzharuk trim "${names[@]}" -- "${steps[@]}" > "$work/buildah/summary" || fail 'tibzharuk trim fails in buildah'
   same_as_direct buildah
   # (bgzip's blocks begin with an extra field BC, and no read has 33 bases of this adapter.)
   [ "$(head -c 14 "$work/buildah/p1.fq.gz" | tail -c 2)" = BC ] || fail 'bgzip compresses nothing in the image'
   cp -r "$work/reads" "$work/adapters"
-  in_buildah run --volume "$work/adapters:/data" "$container" -- trim_gz "${names[@]}" --adapters AGATCGGAAGAGCACACGTCTGAACTCCAGTCA --cutadapt '-O 33' -- "${steps[@]}" \
-    > "$work/adapters/summary" || fail 'trim_gz with adapters fails in buildah'
+  in_buildah run --volume "$work/adapters:/data" "$container" -- tibzharuk trim "${names[@]}" --adapters AGATCGGAAGAGCACACGTCTGAACTCCAGTCA --cutadapt '-O 33' -- "${steps[@]}" \
+    > "$work/adapters/summary" || fail 'tibzharuk trim with adapters fails in buildah'
   same_as_direct adapters
-  [ "$(in_buildah run "$container" -- tibzharuk --version)" = "fq_prog $version" ] || fail 'the image has another version'
+  [ "$(in_buildah run "$container" -- tibzharuk --version | paste -sd ' ')" = "tibzharuk $version fq_prog $version $(rt version)" ] || fail 'the image has another version'
   in_buildah run "$container" -- sh -c 'ps && cat /usr/share/doc/tibzharuk/NOTICES.md' > "$work/log" 2>&1 || fail 'the image lacks ps or the notices'
   in_buildah rm "$container" > /dev/null
   rm -rf "$work/images" "$work/run"
@@ -101,8 +101,8 @@ run_by_charliecloud() {
   [ "$(find "$work/oci/blobs/sha256" -type f | wc -l)" -eq 3 ] || fail 'the image has more than one layer'
   tar -C "$work/root" -xzf "$(find "$work/oci/blobs/sha256" -type f -printf '%s %p\n' | sort -n | tail -n 1 | cut -d ' ' -f 2)" || fail 'the layer is not unpacked'
   cp -r "$work/reads" "$work/charliecloud"
-  USER=${USER:-$(id -un)} ch-run --bind "$work/charliecloud:/data" --cd /data "$work/root" -- trim_gz "${names[@]}" -- "${steps[@]}" > "$work/charliecloud/summary" 2> "$work/log" ||
-    fail "trim_gz fails in ch-run: $(cat "$work/log")"
+  USER=${USER:-$(id -un)} ch-run --bind "$work/charliecloud:/data" --cd /data "$work/root" -- tibzharuk trim "${names[@]}" -- "${steps[@]}" > "$work/charliecloud/summary" 2> "$work/log" ||
+    fail "tibzharuk trim fails in ch-run: $(cat "$work/log")"
   same_as_direct charliecloud
   rm -rf "$work/oci" "$work/root"
 }
@@ -116,15 +116,15 @@ on_a_fresh_debian() {
   rm -f "$root/etc/dpkg/dpkg.cfg.d/99mmdebstrap"
   cp "dist/tibzharuk_${version}_amd64.deb" "$root/tmp/"
   cp /etc/resolv.conf "$root/etc/resolv.conf"
-  DEBIAN_FRONTEND=noninteractive chroot "$root" bash -c 'apt-get update && apt-get install -y --no-install-recommends man-db bash-completion && dpkg -i /tmp/*.deb' > "$work/log" 2>&1 ||
+  DEBIAN_FRONTEND=noninteractive chroot "$root" bash -c 'apt-get update && apt-get install -y --no-install-recommends man-db bash-completion /tmp/*.deb' > "$work/log" 2>&1 ||
     {
       fail "the package is not installed: $(tail -n 5 "$work/log")"
       return
     }
-  for name in fq_prog tibzharuk trim_gz tibzharuk-gz report_to_html tibzharuk-report; do
+  for name in fq_prog tibzharuk tibzharuk-{trim,PE,page,sum,samples}; do
     chroot "$root" env MANPAGER=cat MANWIDTH=80 man "$name" 2> /dev/null | grep -q "$name" || fail "man $name shows nothing there"
   done
-  chroot "$root" tibzharuk EXAMPLE 2> /dev/null | cmp - "$tree/crates/fq_prog/stdout" || fail 'tibzharuk prints another example there'
+  chroot "$root" fq_prog EXAMPLE 2> /dev/null | cmp - "$tree/crates/fq_prog/stdout" || fail 'fq_prog prints another example there'
   mkdir "$root/reads"
   touch "$root/reads/one.fq" "$root/reads/two.fq"
   printf '%s\n' ". /usr/share/bash-completion/bash_completion" 'cd /reads' "PS1='> '" > "$root/setup"

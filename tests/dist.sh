@@ -1,13 +1,14 @@
 #!/usr/bin/env bash
 # The files of a release. The tarball and the Debian package of `make dist` run without anything
-# else installed, and contain what they say. lintian finds no error in the package and has no
-# warning. `make uninstall` removes what `make install` has installed. Each has every command under both of its names, with its manual page and its
-# completion. A part that lacks a Debian package prints 'skipped' and the package's name. If nothing
-# can be packed, the status is 77.
+# else but Python, and contain what they say. lintian finds no error in the package and has no
+# warning. `make uninstall` removes what `make install` has installed. Each has the program and the
+# command, compiled, with their manual pages, their completion and the plugin of MultiQC, and trims
+# for a user without rights. A part that lacks a Debian package prints 'skipped' and the package's
+# name. If nothing can be packed, the status is 77.
 set -uo pipefail
 . "$(dirname "$0")/common.bash"
 dynamic=$tree/crates/fq_prog/out/fq_prog
-need 'cc:gcc libc6-dev' dpkg-deb:dpkg objdump:binutils
+need 'cc:gcc libc6-dev' dpkg-deb:dpkg objdump:binutils python3
 make -s dist > /dev/null || exit 1
 work=$(mktemp -d)
 trap 'rm -rf "$work"' EXIT
@@ -19,9 +20,12 @@ package=$tree/dist/tibzharuk_${version}_amd64.deb
 release=$work/empty/tibzharuk-$version-linux-x86_64
 program=$release/bin/fq_prog
 
-# The commands, each with its second name.
-commands=(fq_prog:tibzharuk trim_gz:tibzharuk-gz)
-if [ -e contrib/report_to_html ]; then commands+=(report_to_html:tibzharuk-report); fi
+kit=$(rt version)
+mapfile -t commands < <(python/tibzharuk/__main__.py --help | sed -n '/^COMMANDS/,/^$/s/^    \([a-zA-Z]\+\) .*/\1/p')
+steps=(LEADING:3 TRAILING:3 SLIDINGWINDOW:4:15 MINLEN:36)
+# Root trims as another user, who may write only where he is.
+anybody=()
+if [ "$(id -u)" -eq 0 ] && command -v setpriv > /dev/null; then anybody=(setpriv --reuid 65534 --regid 65534 --clear-groups); fi
 
 # run_example NAME WORDS..: these words run the program, which prints the stored example
 run_example() {
@@ -41,36 +45,70 @@ check_links() {
   done < <(find "$1" -name '*.md')
 }
 
-# installed_files: what is installed for each command, below the directory of the installation; for
-# the scripts, those in share/tibzharuk too; and the plugin of MultiQC
+# installed_files PACKAGE: what is installed, below the directory of the installation, in which
+# PACKAGE is where Python's packages are
 installed_files() {
-  local command name second file
-  printf 'lib/python3/dist-packages/%s\n' tibzharuk_multiqc tibzharuk_multiqc.egg-info
-  for command in "${commands[@]}"; do
-    name=${command%:*} second=${command#*:}
-    printf '%s\n' "bin/$name" "bin/$second" "share/man/man1/$name.1" "share/man/man1/$second.1"
-    if [ -e "completions/$name.bash" ]; then
-      printf 'share/%s\n' "bash-completion/completions/$name" "bash-completion/completions/$second" "zsh/site-functions/_$name" \
-        "fish/vendor_completions.d/$name.fish" "fish/vendor_completions.d/$second.fish"
-    fi
+  local name
+  (cd python && find tibzharuk -name __pycache__ -prune -o -type f -printf "$1/%p\n")
+  printf '%s\n' bin/fq_prog bin/tibzharuk "$1/tibzharuk/kit" "lib/python3/dist-packages/tibzharuk"
+  printf "lib/python3/dist-packages/tibzharuk-$version.dist-info/%s\n" METADATA entry_points.txt
+  printf 'share/man/man1/%s.1\n' fq_prog tibzharuk "${commands[@]/#/tibzharuk-}"
+  for name in fq_prog tibzharuk; do
+    printf 'share/%s\n' "bash-completion/completions/$name" "zsh/site-functions/_$name" "fish/vendor_completions.d/$name.fish"
   done
 }
 
-# check_commands DIRECTORY: each command runs there under both names, and its manual page is found
-# under both
+# said_by DIRECTORY WORDS..: what these words print, with the programs below the directory and those
+# of the system
+said_by() {
+  local folder=$1
+  shift
+  PATH=$folder/bin:/usr/bin:/bin "$@" 2>&1
+}
+
+# check_commands DIRECTORY: each command runs there, its manual page is found, and MultiQC's plugin
 check_commands() {
-  local command name
-  for command in "${commands[@]}"; do
-    for name in "${command%:*}" "${command#*:}"; do
-      PATH=$1/bin:$PATH PYTHONDONTWRITEBYTECODE=1 "$name" --help > "$work/out" 2>&1 || fail "$name --help fails below $1: $(head -n 3 "$work/out")"
-      [ -x "$1/bin/$name" ] || fail "there is no $name below $1"
-      if command -v man > /dev/null; then
-        [ -s "$(man -M "$1/share/man" -w "$name" 2> /dev/null)" ] || fail "man finds no page of $name below $1"
-      fi
-    done
+  local name words
+  for name in '' "${commands[@]}"; do
+    words=(tibzharuk ${name:+"$name"} --help)
+    said_by "$1" "${words[@]}" > "$work/out" || fail "${words[*]} fails below $1: $(head -n 3 "$work/out")"
+    if command -v man > /dev/null; then
+      [ -s "$(man -M "$1/share/man" -w tibzharuk ${name:+"$name"} 2> /dev/null)" ] || fail "man finds no page of tibzharuk $name below $1"
+    fi
   done
-  [ "$("$1/bin/tibzharuk" --version)" = "fq_prog $version" ] || fail "tibzharuk below $1 has another version"
-  [ "$(PATH=$1/bin:$PATH tibzharuk-gz --version)" = "fq_prog $version" ] || fail "tibzharuk-gz below $1 has another version"
+  [ "$(said_by "$1" tibzharuk --version)" = "tibzharuk $version
+fq_prog $version
+$kit" ] || fail "tibzharuk --version below $1 prints $(said_by "$1" tibzharuk --version)"
+  PYTHONPATH=$1/lib/python3/dist-packages python3 -B -c '
+from importlib.metadata import distribution
+from importlib.util import find_spec
+for each in distribution("tibzharuk").entry_points:
+    assert find_spec(each.value.split(":")[0]), each
+    print(each.group)' | sort | paste -sd ' ' | grep -qx 'console_scripts multiqc.hooks.v1 multiqc.modules.v1' || fail "MultiQC finds no plugin below $1"
+  check_trimming "$1"
+}
+
+# check_trimming DIRECTORY: the command there trims the reads of examples/, and makes their page
+check_trimming() {
+  local side words
+  rm -rf "$work/a lab"
+  mkdir -m 777 "$work/a lab"
+  install -m 644 examples/reads_[12].fq.gz "$work/a lab"
+  words=(tibzharuk trim -1 reads_1.fq.gz -2 reads_2.fq.gz --out s "${steps[@]}")
+  (cd "$work/a lab" && said_by "$1" "${anybody[@]}" "${words[@]}") > "$work/out" || fail "${words[*]} fails below $1: $(cat "$work/out")"
+  cmp "$work/out" examples/trimmed/summary.txt || fail "the command below $1 prints another summary"
+  for side in 1 2; do
+    gzip -dc "$work/a lab/s.r$side.paired.fastq.gz" | cmp - "examples/trimmed/p$side.fq" || fail "the command below $1 writes other pairs"
+  done
+  grep -q '<title>' "$work/a lab/s.html" || fail "the command below $1 makes no page"
+}
+
+# check_compiled DIRECTORY: all of the package there is compiled
+check_compiled() {
+  local source
+  while IFS= read -r source; do
+    compgen -G "${source%/*}/__pycache__/$(basename "$source" .py).*.pyc" > /dev/null || fail "$source is not compiled"
+  done < <(find "$1" -name '*.py')
 }
 
 # The tarball, in an empty directory, with an empty environment.
@@ -80,10 +118,11 @@ check_tarball() {
   mkdir "$work/empty"
   tar -C "$work/empty" -xzf "$tarball" || fail 'the tarball is not unpacked'
   [ "$(ls "$work/empty")" = "${release##*/}" ] || fail "the tarball has another directory: $(ls "$work/empty")"
-  for file in README.md CHANGELOG.md CONTRIBUTING.md SECURITY.md CITATION.cff NOTICES.md LICENSE-MIT LICENSE-APACHE contrib/trim_gz \
-    workflow/Snakefile workflow/cwl/trim_gz.cwl config/config.yaml profiles/{local,slurm,slurm-v8}/config.yaml $(installed_files); do
+  for file in README.md CHANGELOG.md CONTRIBUTING.md SECURITY.md CITATION.cff NOTICES.md LICENSE-MIT LICENSE-APACHE \
+    workflow/Snakefile workflow/cwl/*.cwl config/config.yaml profiles/{local,slurm,slurm-v8}/config.yaml $(installed_files python); do
     [ -s "$release/$file" ] || fail "the tarball lacks $file"
   done
+  check_compiled "$release/python"
   check_commands "$release"
   (cd "$release" && sha256sum --quiet -c SHA256SUMS) || fail 'the sums in the tarball are not those of its files'
   check_links "$release"
@@ -97,7 +136,7 @@ check_version() {
   [ "$(sed -n 's/^## \([0-9.]*\) .*/\1/p' CHANGELOG.md | head -n 1)" = "$version" ] || fail "CHANGELOG.md begins with another version than $version"
   [ "$(dpkg-deb -f "$package" Version)" = "$version" ] || fail "the package has another version than $version"
   grep -qF "\"Tibzharuk $version\"" man/fq_prog.1 || fail "the manual page has another version than $version"
-  grep -qx "Version: $version" contrib/tibzharuk_multiqc.egg-info/PKG-INFO || fail "the plugin of MultiQC has another version than $version"
+  grep -qx "Version: $version" "$release/lib/python3/dist-packages/tibzharuk-$version.dist-info/METADATA" || fail "the plugin of MultiQC has another version than $version"
   grep -qx "version: $version" CITATION.cff || fail "CITATION.cff has another version than $version"
   [ "$(dpkg-deb -f "$package" Maintainer)" = "${DEBFULLNAME:-Tibzharuk maintainers} <${DEBEMAIL:-root@localhost}>" ] || fail 'the package names another maintainer'
 }
@@ -132,7 +171,7 @@ check_same_bytes() {
   diff -r "$work/static" "$work/dynamic" || fail 'the static program writes other bytes'
 }
 
-# The Debian package, in a root of its own.
+# The Debian package, in a root of its own, where nothing else is installed.
 check_package() {
   local root=$work/root file
   mkdir -p "$root/var/lib/dpkg/info" "$root/var/lib/dpkg/updates"
@@ -144,21 +183,22 @@ check_package() {
     return
   fi
   touch "$root/var/lib/dpkg/status" "$root/var/lib/dpkg/available"
-  dpkg --root="$root" --force-script-chrootless --log=/dev/null --install "$package" > "$work/log" 2>&1 || fail "dpkg does not install the package: $(cat "$work/log")"
+  dpkg --root="$root" --force-script-chrootless --force-depends --log=/dev/null --install "$package" > "$work/log" 2>&1 || fail "dpkg does not install the package: $(cat "$work/log")"
   run_example 'the program of the package' env -i "$root/usr/bin/fq_prog"
   check_links "$root"
-  for file in $(installed_files | sed 's|\(share/man/.*\)|\1.gz|; s|zsh/site-functions|zsh/vendor-completions|') \
+  for file in $(installed_files share/tibzharuk/python | sed 's|\(share/man/.*\)|\1.gz|; s|zsh/site-functions|zsh/vendor-completions|') \
     share/doc/tibzharuk/{copyright,README.md,SECURITY.md,CITATION.cff,CHANGELOG.md,changelog.gz,NOTICES.md,licences/LGPL-2.1} \
-    share/tibzharuk/{contrib/trim_gz,workflow/cwl/trim_gz.cwl,profiles/slurm-v8/config.yaml} lib/tibzharuk/relink/fq_prog.o; do
+    share/tibzharuk/{workflow/Snakefile,profiles/slurm-v8/config.yaml} lib/tibzharuk/relink/fq_prog.o; do
     [ -s "$root/usr/$file" ] || fail "the package lacks $file"
   done
-  [[ $(dpkg-deb -f "$package" Recommends) == *tabix* && $(dpkg-deb -f "$package" Suggests) == *cutadapt* ]] || fail 'the package does not name tabix and cutadapt'
+  [[ $(dpkg-deb -f "$package" Depends) == *python3* && $(dpkg-deb -f "$package" Recommends) == *tabix* && $(dpkg-deb -f "$package" Suggests) == *cutadapt* ]] ||
+    fail 'the package does not name python3, tabix and cutadapt'
+  check_compiled "$root/usr/share/tibzharuk/python"
   check_commands "$root/usr"
   bash tests/completion.sh "$root/usr/share" > "$work/log" 2>&1 || fail "the completion of the package: $(cat "$work/log")"
   (cd "$root" && md5sum --quiet -c var/lib/dpkg/info/tibzharuk.md5sums) || fail 'the sums of the package are not those of its files'
-  # (what Python keeps beside a module that it has loaded)
-  mkdir "$root/usr/share/tibzharuk/contrib/tibzharuk_multiqc/__pycache__"
-  touch "$root/usr/share/tibzharuk/contrib/tibzharuk_multiqc/__pycache__/counts.pyc"
+  # (what another version of Python keeps beside a module)
+  touch "$root/usr/share/tibzharuk/python/tibzharuk/multiqc/__pycache__/counts.cpython-399.pyc"
   dpkg --root="$root" --force-script-chrootless --log=/dev/null --purge tibzharuk > "$work/log" 2>&1 || fail "dpkg does not remove the package: $(cat "$work/log")"
   if find "$root" -path "$root/var/lib/dpkg" -prune -o ! -type d -print | grep .; then fail 'the removed package leaves files'; fi
 }
@@ -209,24 +249,15 @@ check_processors() {
   run_example 'the program on the least processor' qemu-x86_64 -cpu Nehalem "$program"
 }
 
-# The scripts that are packed with the program run where they are.
-check_scripts() {
-  local script
-  for script in "$release"/contrib/*; do
-    if [ -f "$script" ] && [ -x "$script" ]; then
-      PATH=$release/bin:$PATH "$script" --help > "$work/out" 2>&1 || fail "$script --help fails: $(cat "$work/out")"
-    fi
-  done
-}
-
 # What is installed runs, and all of its files are removed again; other files stay.
 check_install() {
   local stage="$work/a stage"
   install -D -m 644 README.md "$stage/usr/bin/other"
   make -s install DESTDIR="$stage" PREFIX=/usr > /dev/null || fail 'make install fails'
   run_example 'the installed program' "$stage/usr/bin/fq_prog"
-  { echo bin/other && installed_files; } | sort |
-    diff - <(find "$stage/usr" -path "$stage/usr/share/tibzharuk/contrib" -prune -o ! -type d -printf '%P\n' | sort) || fail 'make install makes other files'
+  { echo bin/other && installed_files share/tibzharuk/python; } | sort |
+    diff - <(find "$stage/usr" -name __pycache__ -prune -o ! -type d -printf '%P\n' | sort) || fail 'make install makes other files'
+  check_compiled "$stage/usr/share/tibzharuk/python"
   check_commands "$stage/usr"
   make -s uninstall DESTDIR="$stage" PREFIX=/usr > /dev/null || fail 'make uninstall fails'
   [ "$(find "$stage" ! -type d)" = "$stage/usr/bin/other" ] || fail "make uninstall leaves $(find "$stage" ! -type d)"
@@ -241,6 +272,5 @@ check_package
 check_lintian
 check_again
 check_processors
-check_scripts
 check_install
 finish 'as it says'
