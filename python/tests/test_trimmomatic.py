@@ -31,7 +31,8 @@ def folder(tmp_path, monkeypatch):
     (tmp_path / "reads.gz").write_bytes(gzip.compress(b"@r\nA\n+\nI\n"))
     for name, quality in ("low", "#I"), ("high", "hB"), ("middle", "IJ"):
         (tmp_path / f"{name}.fq").write_text(f"@r\nAC\n+\n{quality}\n" * 2)
-    for name in "s_1.fq", "s_2.fq", "a_f_1.fq", "a_f_2.fq", "t_R1_1.fq.gz", "t_R2_1.fq.gz", "x.r.fq":
+    for name in ("s_1.fq", "s_2.fq", "a_f_1.fq", "a_f_2.fq", "t_R1_1.fq.gz", "t_R2_1.fq.gz",
+                 "x.r.fq"):
         (tmp_path / name).touch()
 
 
@@ -158,7 +159,8 @@ def test_encoding(qualities, offset):   # as Trimmomatic 0.39 tells it
     ("low.fq low.fq", "Quality encoding detected as phred33", 0),
     ("high.fq high.fq", "Quality encoding detected as phred64", 0),
     ("middle.fq low.fq", "", 1), ("low.fq high.fq", "", 1), ("middle.fq middle.fq", "", 1),
-    ("nowhere nowhere", "", 1), ("-phred33 middle.fq low.fq", "", 0),
+    ("nowhere low.fq", "", 0), ("/dev/null low.fq", "", 1), ("- low.fq", "", 1),
+    ("-phred33 middle.fq low.fq", "", 0),
     ("-phred64 low.fq low.fq", "", 0), ("--encoding sanger high.fq low.fq", "", 0),
 ))
 def test_what_is_said_of_the_encoding(reads, line, notes):
@@ -175,8 +177,8 @@ def test_base_in(forward, reverse):
 
 @pytest.mark.parametrize("base, stem, ending", (     # as Trimmomatic 0.39 names them
     ("m.fq.gz", "m", ".fq.gz"), ("a.b.fq.gz", "a.b", ".fq.gz"), ("noext", "noext", ""),
-    ("x.y.z", "x.y.z", ""), ("x.gz", "x", ".gz"), ("a.gz.fq", "a", ".gz.fq"), ("a.txt", "a", ".txt"),
-    ("a.FQ", "a.FQ", ""), ("d.x/m.fq", "d.x/m", ".fq"), (".fq", "", ".fq"),
+    ("x.y.z", "x.y.z", ""), ("x.gz", "x", ".gz"), ("a.gz.fq", "a", ".gz.fq"),
+    ("a.txt", "a", ".txt"), ("a.FQ", "a.FQ", ""), ("d.x/m.fq", "d.x/m", ".fq"), (".fq", "", ".fq"),
 ))
 def test_base_out(base, stem, ending):
     wanted = [f"{stem}_{each}{ending}" for each in ("1P", "1U", "2P", "2U")]

@@ -247,8 +247,10 @@ def encoding_of(words: Words, inputs: Sequence[str]) -> Encoding:
     offset = 64 if "phred64" in words.given else offset_in(inputs)
     line = "" if "phred64" in words.given else f"Quality encoding detected as phred{offset}"
     if offset is None:
-        return Encoding([], "", ["no encoding was detected, so qualities are taken as Phred+33 "
-                                 "(-phred33 or -phred64 says which)"])
+        is_missing = not all(name == "-" or os.path.exists(name) for name in inputs)
+        note = ("no encoding was detected, so qualities are taken as Phred+33 (-phred33 or "
+                "-phred64 says which)")
+        return Encoding([], "", [] if is_missing else [note])
     return Encoding(["--encoding=illumina13"] if offset == 64 else [], line, [])
 
 
