@@ -101,7 +101,7 @@ head -c "$(($(stat -c %s r.gz) / 2))" r.gz > r.half.gz
 earlier
 (cd "$work" && trimmed -1 data/f.gz -2 data/r.half.gz --interleaved - "${unpaired[@]}" "${last[@]}") 2> "$work/told" | cat > "$work/printed"
 [ "${PIPESTATUS[0]}" -eq 3 ] || fail 'the status is not 3'
-[ "$(cat "$work/told")" = 'tibzharuk: cannot read data/r.half.gz: unexpected end of file' ] || fail "it says $(cat "$work/told")"
+[ "$(cat "$work/told")" = 'tibzharuk: cannot read data/r.half.gz: unexpected end of file; what was written to - is incomplete: discard what was made of it' ] || fail "it says $(cat "$work/told")"
 head -c "$(stat -c %s "$work/printed")" "$plain/il.fq" | cmp -s - "$work/printed" || fail 'the stream is no beginning of the right one'
 : > "$work/printed"
 untouched
@@ -109,14 +109,14 @@ row='a reader that ends early'
 earlier
 (cd "$work" && trimmed "${both[@]}" --interleaved - "${unpaired[@]}" "${last[@]}") 2> "$work/told" | head -n 1 > "$work/printed"
 [ "${PIPESTATUS[0]}" -eq 4 ] || fail 'the status is not 4'
-[ "$(cat "$work/told")" = 'tibzharuk: cannot write -: its reader has ended' ] || fail "it says $(cat "$work/told")"
+[ "$(cat "$work/told")" = 'tibzharuk: cannot write -: its reader has ended; what was written to - is incomplete: discard what was made of it' ] || fail "it says $(cat "$work/told")"
 untouched
 if [ -w /dev/full ]; then
   row='a stream onto a full device'
   earlier
   (cd "$work" && trimmed "${both[@]}" --interleaved - "${unpaired[@]}" "${last[@]}") > /dev/full 2> "$work/told"
   [ $? -eq 4 ] || fail 'the status is not 4'
-  [ "$(cat "$work/told")" = 'tibzharuk: cannot write -: write error: No space left on device' ] || fail "it says $(cat "$work/told")"
+  [ "$(cat "$work/told")" = 'tibzharuk: cannot write -: write error: No space left on device; what was written to - is incomplete: discard what was made of it' ] || fail "it says $(cat "$work/told")"
   untouched
 fi
 
@@ -130,17 +130,8 @@ rm f.large r.large
 
 # Pairs of a simulated genome, for mappers.
 row='mappers'
-awk 'BEGIN { srand(7); for (i = 0; i < 300; i++) { s = ""; for (k = 0; k < 70; k++) s = s substr("ACGT", 1 + int(rand() * 4), 1); print s } }' > genome.txt
-{ echo '>one' && cat genome.txt; } > genome.fa
-tr -d '\n' < genome.txt | awk 'BEGIN { srand(8) } {
-  for (k = 1; k <= 2000; k++) {
-    p = 1 + int(rand() * (length($0) - 300)); f = substr($0, p, 100); m = substr($0, p + 200, 100); r = ""; q = ""
-    for (i = 100; i > 0; i--) r = r substr("TGCA", index("ACGT", substr(m, i, 1)), 1)
-    n = 50 + int(rand() * 50); for (i = 1; i <= 100; i++) q = q (i <= n ? "I" : "#")
-    printf "@g%d 1:N:0:A\n%s\n+\n%s\n", k, f, q > "g1"; printf "@g%d 2:N:0:A\n%s\n+\n%s\n", k, r, q > "g2"
-  } }'
-"$program" PE g1 g2 "$plain/g1.fq" /dev/null "$plain/g2.fq" /dev/null "${steps[@]}" > "$plain/summary"
-pairs=$(($(wc -l < "$plain/g1.fq") / 4))
+. "$tree/tests/trim/genome.bash"
+draw_genome 2000
 into=(-1 data/g1 -2 data/g2 --interleaved - --no-unpaired "${last[@]}")
 # mapped COMMAND..: the mapper over the stream gives the same records as over the two files
 mapped() {
