@@ -5,7 +5,7 @@
 # shellcheck disable=SC2034  # the variables are the caller's
 _tibzharuk_known() {
   # made by packaging/made.py: command-for-bash
-  commands='trim PE page sum samples'
+  commands='trim PE page sum samples workflow'
   case $command in
     trim)
       several='-1 -2 -i'
@@ -32,6 +32,9 @@ _tibzharuk_known() {
       ;;
     samples)
       flags='-h --help --by-run'
+      ;;
+    workflow)
+      flags='-h --help'
       ;;
   esac
   case $previous in

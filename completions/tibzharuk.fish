@@ -110,6 +110,7 @@ complete -c tibzharuk -n __tibzharuk_begins -a PE -d 'the same by a line of Trim
 complete -c tibzharuk -n __tibzharuk_begins -a page -d 'makes a page for the browser from a report'
 complete -c tibzharuk -n __tibzharuk_begins -a sum -d 'adds up reports, such as those of the lanes of a sample'
 complete -c tibzharuk -n __tibzharuk_begins -a samples -d 'prints the table of samples that the workflow reads'
+complete -c tibzharuk -n __tibzharuk_begins -a workflow -d 'prepares a directory for the workflow, which trims many samples'
 complete -c tibzharuk -n '__tibzharuk_wants step trim' -a 'LEADING: TRAILING: SLIDINGWINDOW: CROP: HEADCROP: AVGQUAL: MINLEN: TOPHRED33'
 complete -c tibzharuk -n '__tibzharuk_wants option trim' -s 1 -rF -d 'forward and reverse reads'
 complete -c tibzharuk -n '__tibzharuk_wants option trim' -s 2 -rF -d 'forward and reverse reads'
@@ -207,4 +208,5 @@ complete -c tibzharuk -n '__tibzharuk_wants option sum' -l trimlog -rF -d 'the n
 complete -c tibzharuk -n '__tibzharuk_wants option sum' -l summary -rF -d 'write the summary of all to this file'
 complete -c tibzharuk -n '__tibzharuk_wants option samples' -s h -l help -d 'show this help message and exit'
 complete -c tibzharuk -n '__tibzharuk_wants option samples' -l by-run -d 'begin the name of each lane with that of its run'
+complete -c tibzharuk -n '__tibzharuk_wants option workflow' -s h -l help -d 'show this help message and exit'
 # end of command-for-fish

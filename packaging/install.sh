@@ -1,6 +1,6 @@
 #!/usr/bin/env bash
-# Puts the program and the command with its Python package, their manual pages, their completion and
-# the plugin of MultiQC below a directory such as /usr/local, or removes them. `make install`, the
+# Puts the program and the command with its Python package, their manual pages, their completion, the
+# workflow and the plugin of MultiQC below a directory such as /usr/local, or removes them. `make install`, the
 # tarball and the Debian package have all of them by this list. Neither pip nor a network is needed.
 set -euo pipefail
 umask 022
@@ -10,7 +10,8 @@ usage() {
   echo "usage: packaging/install.sh PROGRAM DIRECTORY [PACKAGE]
        packaging/install.sh --remove DIRECTORY
 Installs PROGRAM as DIRECTORY/bin/fq_prog, and the command tibzharuk, whose Python package goes to
-DIRECTORY/PACKAGE (default: share/tibzharuk/python) and is compiled if python3 is installed.
+DIRECTORY/PACKAGE (default: share/tibzharuk/python) and is compiled if python3 is installed. The
+workflow is beside it.
 tibzharuk --version then names the Rattle kit that is installed here, as 'rt version' prints it.
 MultiQC finds its plugin by DIRECTORY/lib/python3/dist-packages, which is on Python's path on Debian
 if DIRECTORY is /usr. --remove removes all of these files."
@@ -59,6 +60,8 @@ entries() {
   for file in $(files_of python/tibzharuk); do echo "file $file $package/${file#python/}"; done
   echo "kit - $package/tibzharuk/kit
 link ../$package/tibzharuk/__main__.py bin/tibzharuk"
+  # The workflow is beside the package, as in the tree.
+  for file in $(files_of workflow config profiles); do echo "file $file ${package%python}$file"; done
   # MultiQC finds its plugin by these.
   echo "link ../../../$package/tibzharuk lib/python3/dist-packages/tibzharuk
 metadata - $metadata/METADATA
@@ -110,4 +113,12 @@ if [ -n "$program" ] && command -v python3 > /dev/null; then
 fi
 if [ -z "$program" ] && [ -d "$folder/share/tibzharuk" ]; then
   find "$folder/share/tibzharuk" -depth -type d -empty -delete
+fi
+if [ -n "$program" ] && [ -z "${DESTDIR-}" ]; then
+  echo "tibzharuk and fq_prog are in $folder/bin; 'tibzharuk workflow DIRECTORY' prepares the workflow."
+  case :$PATH: in
+    *:"$folder/bin":*) echo "The search path has $folder/bin." ;;
+    *) echo "They aren't on the search path yet: export PATH=$folder/bin:\$PATH" ;;
+  esac
+  echo "MultiQC finds its plugin by: export PYTHONPATH=$folder/lib/python3/dist-packages"
 fi

@@ -69,9 +69,6 @@ put_documents() {
   libraries > "$to/licences/versions"
 }
 
-# The workflow.
-put_workflow() { put_tree "$1" workflow config profiles; }
-
 # The Debian packages whose files were linked into the program.
 libraries() {
   # shellcheck disable=SC2016  # the fields are dpkg-query's
@@ -86,9 +83,8 @@ put_objects() {
 
 pack_tarball() {
   local to=$work/$release
-  bash packaging/install.sh "$folder/fq_prog" "$to" python
+  bash packaging/install.sh "$folder/fq_prog" "$to" python > /dev/null
   put_documents "$to"
-  put_workflow "$to"
   put_objects "$to/relink"
   (cd "$to" && find . -type f -printf '%P\n' | sort | xargs -d '\n' sha256sum) > "$work/sums"
   put 644 "$work/sums" "$to/SHA256SUMS"
@@ -144,7 +140,7 @@ compress_pages() {
 pack_package() {
   local root=$work/root documents
   documents=$root/usr/share/doc/tibzharuk
-  bash packaging/install.sh "$folder/fq_prog" "$root/usr"
+  bash packaging/install.sh "$folder/fq_prog" "$root/usr" > /dev/null
   # Debian's programs run by Debian's Python.
   sed -i '1s|.*|#!/usr/bin/python3 -IS|' "$root/usr/share/tibzharuk/python/tibzharuk/__main__.py"
   # Debian compiles what is installed (postinst.sh).
@@ -157,7 +153,6 @@ pack_package() {
   changelog | gzip -9n > "$documents/changelog.gz"
   mkdir -p "$root/usr/share/lintian/overrides"
   overrides > "$root/usr/share/lintian/overrides/tibzharuk"
-  put_workflow "$root/usr/share/tibzharuk"
   # The documents and the workflow lead to each other.
   ln -s ../../tibzharuk/workflow "$documents/workflow"
   ln -s ../doc/tibzharuk/docs "$root/usr/share/tibzharuk/docs"

@@ -184,14 +184,14 @@ want solexa 'fq_prog IL --encoding so'
 want '' 'fq_prog EXAMPLE L'
 want_program PE 'f r fp fu rp '
 want_program IL 'i fp fu rp '
-want 'PE page samples sum trim' 'tibzharuk '
+want 'PE page samples sum trim workflow' 'tibzharuk '
 want 'page' 'tibzharuk pa'
 want '--help --version' 'tibzharuk --'
 want 'truseq' 'tibzharuk trim --adapters tr'
 want 'two.fq' 'tibzharuk trim --adapters tw'
 want_trim
 want_pe
-for name in page sum samples; do want_files "$name"; done
+for name in page sum samples workflow; do want_files "$name"; done
 [ "$(grep -c -- --report "$work/wanted")" -gt 20 ] || fail 'help names no options with a value'
 
 shells=''

@@ -1,4 +1,5 @@
-"""Tibzharuk's command: `tibzharuk trim`, `PE`, `page`, `sum` and `samples`.
+"""Tibzharuk's command: `tibzharuk trim`, `PE`, `page`, `sum`, `samples` and
+`workflow`.
 
     command     the command: which part does what the first word asks for
     pe          a line of Trimmomatic's paired-end mode, as the command `PE`
@@ -7,6 +8,7 @@
     page        the page of a report
     sum         the sum of reports
     samples     the table of samples
+    workflow    a directory for the workflow
     report/     reports, and the parts of their page
     multiqc/    the plugin of MultiQC
 

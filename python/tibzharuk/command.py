@@ -7,6 +7,7 @@ SYNOPSIS
     tibzharuk page REPORT > PAGE
     tibzharuk sum REPORT.. > REPORT
     tibzharuk samples DIRECTORY.. > TABLE
+    tibzharuk workflow DIRECTORY
 
 COMMANDS
     trim       trims plain or compressed files, removes adapters, and makes all
@@ -15,6 +16,7 @@ COMMANDS
     page       makes a page for the browser from a report
     sum        adds up reports, such as those of the lanes of a sample
     samples    prints the table of samples that the workflow reads
+    workflow   prepares a directory for the workflow, which trims many samples
 
     tibzharuk COMMAND --help says more of each.
 
@@ -37,6 +39,7 @@ COMMANDS = {
     "page": "tibzharuk.page",
     "sum": "tibzharuk.sum",
     "samples": "tibzharuk.samples",
+    "workflow": "tibzharuk.workflow",
 }
 PROGRAM = "fq_prog"
 
