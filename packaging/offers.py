@@ -98,8 +98,8 @@ def options_in(text: str) -> List[Option]:
             else:
                 found.append(Option([name], values, about))
     known = {name for option in found for name in option.names}
-    synopsis = re.search(r'(?ms)^SYNOPSIS\n(.*?)\n\n', text)
-    for name, value in re.findall(r'[\[|] ?(-[a-z]\w+)(?: ([A-Z]+))?', synopsis[1] if synopsis else ''):
+    synopsis = ''.join(re.findall(r'(?ms)^SYNOPSIS\n(.*?)\n\n', text))
+    for name, value in re.findall(r'[\[|] ?(-[a-z]\w+)(?: ([A-Z]+))?', synopsis):
         if name not in known:
             found.append(Option([name], [value] if value else [], ''))
     return found

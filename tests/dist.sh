@@ -76,9 +76,9 @@ check_commands() {
       [ -s "$(man -M "$1/share/man" -w tibzharuk ${name:+"$name"} 2> /dev/null)" ] || fail "man finds no page of tibzharuk $name below $1"
     fi
   done
-  [ "$(said_by "$1" tibzharuk --version)" = "tibzharuk $version
-fq_prog $version
-$kit" ] || fail "tibzharuk --version below $1 prints $(said_by "$1" tibzharuk --version)"
+  # (also if it isn't on the path)
+  PATH=/usr/bin:/bin "$1/bin/tibzharuk" --version 2>&1 | diff - <(printf 'tibzharuk %s\nfq_prog %s\n%s\n' "$version" "$version" "$kit") > "$work/difference" ||
+    fail "tibzharuk --version below $1 prints other lines: $(cat "$work/difference")"
   PYTHONPATH=$1/lib/python3/dist-packages python3 -B -c '
 from importlib.metadata import distribution
 from importlib.util import find_spec

@@ -54,6 +54,14 @@ def ready_for_signals() -> None:
         signal.signal(signal.SIGINT, signal.SIG_DFL)
 
 
+def find_program_beside() -> None:
+    """A release runs where it was unpacked: its program is found beside the command, if there is
+    none on the search path."""
+    place = os.path.dirname(os.path.abspath(sys.argv[0]))
+    if os.access(os.path.join(place, PROGRAM), os.X_OK):
+        os.environ["PATH"] = os.pathsep.join([os.environ.get("PATH", os.defpath), place])
+
+
 def refuse(line: str) -> int:
     sys.stderr.write(f"tibzharuk: {line} (tibzharuk --help)\n")
     return 1
@@ -101,6 +109,7 @@ def near(word: str) -> str:
 def main(words: Optional[Sequence[str]] = None) -> int:
     """Returns the status."""
     ready_for_signals()
+    find_program_beside()
     said: List[str] = list(sys.argv[1:] if words is None else words)
     if not said:
         return refuse(f"a command is missing: {', '.join(COMMANDS)}")
