@@ -65,6 +65,13 @@ sed '/<table/,$d' page.html > above
 grep -q "<strong>cut</strong>: <samp>$(cat fault)</samp>" above || fail 'it is not named above the tables'
 grep -q 'Stopped at a fault of the inputs: 1' above || fail 'others are named too'
 
+row='a run over the first pairs'
+mkdir first
+sed 's/"fault":null,/&"first_pairs":500,/' lab/plain.json > first/first.json
+page first
+shows first/first.json
+sed '/<table/,$d' page.html | grep -q 'Only the first pairs were trimmed: 1.*<strong>first</strong>: <samp>--pairs 500</samp>' || fail 'it is not named above the tables'
+
 row='files that are not reports'
 mkdir bad
 cp lab/b/two.json bad/

@@ -94,7 +94,7 @@ same() {
   rm -rf other
   mv out other
   made "$@"
-  rm out/s.json out/s.html other/s.json other/s.html
+  rm -f out/s.json out/s.html other/s.json other/s.html
   diff -r out other > difference || fail "$(cat difference)"
 }
 
@@ -179,7 +179,7 @@ first() {
   mv out other
   trimmed -1 first_1.fq -2 first_2.fq --out out/s "${@:2}" "${steps[@]}"
   is first_pairs '"missing"'
-  rm out/s.json out/s.html other/s.json other/s.html
+  rm -f out/s.json out/s.html other/s.json other/s.html
   diff -r out other > difference || fail "$(cat difference)"
 }
 
@@ -264,10 +264,10 @@ refused 1 '--checksums writes PREFIX.sha256, so it needs --out PREFIX' -1 plain_
 refused 1 '--checksums: no output is a file' -1 plain_1.fq -2 plain_2.fq --out out/s --interleaved - --no-unpaired --no-report --checksums
 refused 2 'out/s.sha256 is given for two outputs' -1 plain_1.fq -2 plain_2.fq --out out/s --checksums --summary out/s.sha256
 row='checksums of a run that fails'
-echo earlier > earlier
+head -c 500 plain_1.fq.gz > short_1.fq.gz
 ln link/s.sha256 kept
-refused 3 'cannot read cut_1.fq.gz: unexpected end of file' -1 cut_1.fq.gz -2 plain_2.fq --out out/s --checksums
-trimmed -1 cut_1.fq.gz -2 plain_2.fq --out link/s --checksums "${steps[@]}"
+refused 3 'cannot read short_1.fq.gz: unexpected end of file' -1 short_1.fq.gz -2 plain_2.fq --out out/s --checksums
+trimmed -1 short_1.fq.gz -2 plain_2.fq --out link/s --checksums "${steps[@]}"
 [ link/s.sha256 -ef kept ] || fail 'the earlier file is gone'
 
 row='steps without --, and a file that is named like one'
@@ -277,8 +277,9 @@ made '' -1 ./MINLEN:36 -2 ./LEADING:3 --out out/s LEADING:3 TRAILING:3 MINLEN:36
 same '' -1 plain_1.fq -2 plain_2.fq --out out/s -- LEADING:3 TRAILING:3 MINLEN:36
 same '' -2 ./LEADING:3 --out out/s -1 ./MINLEN:36 -- LEADING:3 TRAILING:3 MINLEN:36
 row='steps without --, that are wrong'
-steps=(LEADNG:3)
-refused 2 'bad step: LEADNG:3' -1 plain_1.fq -2 plain_2.fq --out out/s
+trimmed -1 plain_1.fq -2 plain_2.fq --out out/s LEADNG:3
+[ "$(cat status)" -eq 2 ] || fail "status $(cat status), not 2"
+grep -q "^tibzharuk: bad step 1: .*'LEADNG:3'" told || fail "it says $(cat told)"
 steps=(MINLEN:36 --sync)
 refused 1 '--sync comes after the steps; options come before them (tibzharuk trim --help)' -1 plain_1.fq -2 plain_2.fq --out out/s
 steps=(minlen:36)

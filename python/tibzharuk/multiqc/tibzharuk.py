@@ -116,7 +116,10 @@ class MultiqcModule(BaseMultiqcModule):
         if not self.reports and not self.stopped:
             raise UserWarning
         log.info("Found %d reports", len(self.reports))
-        self.name_stopped()
+        self.name_above("danger", "Stopped at a fault of the inputs", "are left out", self.stopped)
+        parts = {name: f"--pairs {report['first_pairs']}"
+                 for name, report in self.reports.items() if "first_pairs" in report}
+        self.name_above("warning", "Only the first pairs were trimmed", "may have more", parts)
         if self.reports:
             self.add_table()
             self.add_bars()
@@ -151,19 +154,19 @@ class MultiqcModule(BaseMultiqcModule):
                 stopped[name] = report["fault"] or report["outcome"]
         return whole, stopped
 
-    def name_stopped(self) -> None:
-        """Names the samples whose run stopped at a fault, above the tables: what was counted of
-        them is only a part."""
-        if not self.stopped:
+    @staticmethod
+    def name_above(kind: str, title: str, said: str, whys: Dict[str, str]) -> None:
+        """Names samples above the tables, of which only a part was counted, and why."""
+        if not whys:
             return
         samples = "".join(
             f"<li><strong>{escape(name)}</strong>: <samp>{escape(plain(why))}</samp></li>"
-            for name, why in self.stopped.items()
+            for name, why in whys.items()
         )
         config.report_comment = (
             f"{getattr(config, 'report_comment', None) or ''}"
-            f'<div class="alert alert-danger"><strong>Stopped at a fault of the inputs: '
-            f"{len(self.stopped)}.</strong> These samples are left out:<ul>{samples}</ul></div>"
+            f'<div class="alert alert-{kind}"><strong>{title}: {len(whys)}.</strong> '
+            f"These samples {said}:<ul>{samples}</ul></div>"
         )
 
     def add_table(self) -> None:

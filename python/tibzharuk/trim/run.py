@@ -288,6 +288,8 @@ class Run:
             self.look_for_record(fault)
         if fault:
             raise fault
+        if self.arguments.pairs and self.arguments.pairs < (self.pairs_read() or 0):
+            raise Fault(3, "--pairs can't count a record that goes on in the next file")
 
     def look_for_record(self, fault: Fault) -> None:
         """Reads the inputs again, without cutadapt, and ends the run if the program finds a fault
