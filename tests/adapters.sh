@@ -120,9 +120,9 @@ TruSeq3-PE.fa|2|--adapters: TruSeq3-PE.fa has palindrome entries of Trimmomatic 
 NexteraPE-PE.fa|2|--adapters: NexteraPE-PE.fa has palindrome entries of Trimmomatic (PrefixNX/1): use --adapters nextera
 own-PE.fa|2|--adapters: own-PE.fa has palindrome entries of Trimmomatic (PrefixPE/1): use --adapters GTTTAAACCC,ACGTGGCCAATT
 half-PE.fa|2|--adapters: half-PE.fa has palindrome entries of Trimmomatic (PrefixPE/1): use --adapters $known, or a FASTA file of the 3' adapters
-none.fa|2|--adapters: none.fa is neither a file nor a sequence nor $known
-A{10}|2|--adapters: A{10} is neither a file nor a sequence nor $known
-ACGT,|2|--adapters: ACGT, is neither a file nor a sequence nor $known
+none.fa|2|--adapters: none.fa is neither a file nor a sequence nor auto, $known
+A{10}|2|--adapters: A{10} is neither a file nor a sequence nor auto, $known
+ACGT,|2|--adapters: ACGT, is neither a file nor a sequence nor auto, $known
 empty.fa|2|--adapters: empty.fa has no adapters
 nothing.fa|2|--adapters: nothing.fa has no sequence for b
 list.txt|2|--adapters: list.txt isn't FASTA: its first line doesn't begin with >

@@ -6,7 +6,7 @@ from typing import List
 
 from .fasta import Entry, other_strand, read_fasta
 from .faults import Fault
-from .known_adapters import KnownAdapter, known_adapters, names_of_known
+from .known_adapters import AUTO, KnownAdapter, known_adapters, names_of_known
 
 LETTERS = "[ACGTUNRYSWKMBDHVI]"
 SEQUENCES = f"{LETTERS}+(,{LETTERS}+)?$"
@@ -30,7 +30,8 @@ def options_of(given: str) -> List[str]:
         return ["-a", f"file:{given}", "-A", f"file:{given}"]
     if not re.match(SEQUENCES, given, re.I):
         raise Fault(
-            2, f"--adapters: {given} is neither a file nor a sequence nor {names_of_known()}")
+            2, f"--adapters: {given} is neither a file nor a sequence nor {AUTO}, "
+               f"{names_of_known()}")
     forward, _, reverse = given.partition(",")
     return ["-a", forward, "-A", reverse or forward]
 

@@ -51,7 +51,7 @@ class HelpAsked(Exception):
 def number_to(option: str, most: int) -> Callable[[str], int]:
     """A reader of numbers from 1 to `most`."""
     def read(text: str) -> int:
-        if not re.match("[1-9][0-9]*$", text) or int(text) > most:
+        if not re.match("[1-9][0-9]{0,12}$", text) or int(text) > most:
             raise Fault(1, f"{option} must be a number from 1 to {most}, not {text}")
         return int(text)
     return read

@@ -2,6 +2,7 @@
 
 import hashlib
 import os
+from concurrent.futures import ThreadPoolExecutor
 from typing import Sequence
 
 from .files import Output
@@ -36,7 +37,6 @@ def line_of(checksum: str, name: str) -> bytes:
 def checksums(outputs: Sequence[Output], name: str) -> bytes:
     """The lines of these outputs, which still have hidden names, for a file of this name. Several
     outputs are read at a time."""
-    from concurrent.futures import ThreadPoolExecutor
     pool = ThreadPoolExecutor(max(1, len(outputs)))
     try:
         found = list(pool.map(sha256_of, [output.written() for output in outputs]))

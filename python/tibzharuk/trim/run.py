@@ -10,13 +10,12 @@ from typing import Dict, List, NoReturn, Optional, Sequence, Tuple
 from . import faults, records
 from .arguments import CHECKSUMS, Arguments, HelpAsked
 from .checks import check_interleaved, check_lanes, no_end
-from .checksums import checksums
 from .children import Ended, Family, Pipes
 from .cutadapt import KEEPS_BUFFERS, Cutadapt
 from .faults import Fault, Stopped, reason, say, signal_name, warn, write_all
-from .first_records import copied
 from .files import (Output, Side, check_inputs, give_names, readable, sides_of, take_names_back,
                     with_names)
+from .first_records import copied
 from .known_adapters import taken_by_auto, word_on_adapters, word_on_scores
 from .plan import (COUNTED, CUTADAPT_COUNTED, CUTADAPT_PRINTED, FLAGS, KEPT, PRINTED, TRIMMED, End,
                    Lane, Made, Start, Stream, Word, counter, lane, plan, shown)
@@ -375,8 +374,7 @@ class Run:
             for role, text in texts.items():
                 self.write(self.outputs[role], text)
             if CHECKSUMS in self.outputs:
-                each = self.outputs[CHECKSUMS]
-                self.write(each, checksums(self.files_with_checksums(), each.name))
+                self.write_checksums(self.outputs[CHECKSUMS])
             for output in self.outputs.values():
                 output.sync()
         named = give_names(self.outputs.values())
@@ -472,6 +470,10 @@ class Run:
             output.write(text, self.tools.level)
         except OSError as error:
             raise output.fault(reason(error))
+
+    def write_checksums(self, output: Output) -> None:
+        from .checksums import checksums    # what it imports takes longer than the rest
+        self.write(output, checksums(self.files_with_checksums(), output.name))
 
     def clean(self) -> None:
         """Ends the children and removes the hidden files."""
