@@ -8,7 +8,7 @@ _fq_prog_known() {
   commands='PE IL EXAMPLE'
   with_file='--trimlog --report'
   with_value='--threads --block --depth --chunk --encoding'
-  flags='--no-name-check --sync --explain --no-explain --help --version'
+  flags='--no-name-check --sync --explain --help --version'
   encodings='sanger illumina13 solexa'
   steps='LEADING: TRAILING: SLIDINGWINDOW: CROP: HEADCROP: AVGQUAL: MINLEN: TOPHRED33'
   case $command in

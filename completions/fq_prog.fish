@@ -68,7 +68,6 @@ complete -c fq_prog -n '__fq_prog_wants trimming' -l no-name-check -d 'pairs mat
 complete -c fq_prog -n '__fq_prog_wants trimming' -l sync -d 'waits until the outputs are on disk'
 complete -c fq_prog -n '__fq_prog_wants trimming' -l report -rF -d 'writes counts of pairs, reads, bases and steps as JSON'
 complete -c fq_prog -n '__fq_prog_wants trimming' -l explain -d 'gives the reason for an error in its line'
-complete -c fq_prog -n '__fq_prog_wants trimming' -l no-explain -d 'gives no reason, even if called as tibzharuk'
 # end of offers-for-fish
 complete -c fq_prog -s h -l help -d 'print help'
 complete -c fq_prog -s V -l version -d 'print version'
