@@ -4,7 +4,7 @@
 Each edit in must-fail/ and wrong-bodies/ still applies: its file exists, each text after 'old:' is
 in the file once, and something changes. No name is given twice in a crate. Each public function of
 a crate with wrong bodies has a row in guards.tsv beside this script, and each operation has an edit,
-which the gate or `make deep` tries.
+which the gate or `make deep` tries. Each row of survivors.tsv names a file, and says why it is right.
 """
 import os
 import re
@@ -86,6 +86,15 @@ def faults_of_guards(crates, rows):
             yield f"guards.tsv: {function} of {crate} has no edit"
 
 
+def faults_of_survivors(path):
+    """Rows of survivors.tsv that aren't a crate, what rt plant prints, and a reason; or whose file is gone."""
+    for line in path.read_text(encoding="utf-8").splitlines():
+        if not line.startswith("#"):
+            parts = line.split("\t")
+            if len(parts) != 3 or not all(parts) or not Path("crates", parts[0], parts[1].split()[0]).is_file():
+                yield f"survivors.tsv: no reason, or no such file: {line}"
+
+
 def main():
     here = Path(__file__).resolve().parent
     crates = sorted({path.parent for folder in FOLDERS for path in Path("crates").glob(f"*/{folder}")})
@@ -103,6 +112,7 @@ def main():
                     faults.append(f"{edit}: the name is given twice")
                 names.add(edit.name)
     faults += faults_of_guards(crates, guards(here / "guards.tsv"))
+    faults += faults_of_survivors(here / "survivors.tsv")
     for fault in faults:
         print(f"wrong_bodies: {fault}")
     if not faults:
