@@ -160,7 +160,7 @@ signalled() {
 }
 row='a signal to the group'
 signalled TERM 143
-signalled INT 130
+signalled USR1 138
 signalled HUP 129
 
 row='a command that writes to standard output'

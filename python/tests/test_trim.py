@@ -6,12 +6,14 @@ import json
 import os
 import pty
 import re
+import signal
 import zlib
 
 import pytest
 
 from tibzharuk.trim import arguments, checks, cutadapt, files, progress, report, tools
-from tibzharuk.trim.faults import Fault
+from tibzharuk.trim.children import Ended
+from tibzharuk.trim.faults import SIGNALS, Fault
 
 
 class Pieces:
@@ -78,6 +80,10 @@ NEEDED = (
      "no --unpaired2 (tibzharuk trim --help)"),
     (["-i", "a", "--interleaved", "x.gz", "--no-unpaired", "--through", "cat", "--"],
      "--through needs --interleaved, whose name doesn't end in .gz"),
+    (["-i", "a", "--through", "cat"] + FOUR + ["--"],
+     "--through needs --interleaved, whose name doesn't end in .gz"),
+    (["-i", "a", "--interleaved", "x", "--no-unpaired", "--expect-pairs", "--"],
+     "--expect-pairs without --through"),
 )
 
 
@@ -241,9 +247,58 @@ def test_processors(text, count, tmp_path, monkeypatch):
     assert tools.processors() == count
 
 
+NAMES = "Read name 'r1' and 'x1' do not match"
+
+
 class TestCutadapt(Pieces):
     def test_nobody_was_killed(self):
         assert (cutadapt.killed_below(os.getpid()), cutadapt.killed_below(0)) == (0, 0)
+
+    @pytest.mark.parametrize("said, words, wanted, is_stricter", (
+        ("Error in FASTQ file at line 5: no @", [],
+         f"Error in FASTQ file at line 5: no @ (a, b): {cutadapt.FOUR_LINES}", False),
+        ("Could not determine whether file '<x>' is FASTA or FASTQ", [],
+         f"a record isn't FASTQ (a, b): {cutadapt.FOUR_LINES}", False),
+        ("Error in FASTQ file at unknown line: Non-ASCII characters", [],
+         "Error in FASTQ file at unknown line: Non-ASCII characters (a, b): "
+         f"{cutadapt.ASCII_TITLES}", True),
+        (NAMES, [], f"{NAMES} (a, b)", False),
+        (NAMES, ["--no-name-check"], f"{NAMES} (a, b): {cutadapt.SAME_NAMES}", True),
+        ("no space", [], "no space (a, b)", False),
+    ))
+    def test_what_to_do(self, said, words, wanted, is_stricter, monkeypatch):
+        monkeypatch.setattr(cutadapt, "which", lambda _: "/bin/cutadapt")
+        given = arguments.Arguments(["-1", "a", "-2", "b", "--adapters", "A", *words])
+        one = cutadapt.Cutadapt(given, "s")
+        one.hear({"/dev/fd/9": "a"}, ["a", "b"], b"", f"ERROR: {said}\n".encode())
+        fault = one.fault(Ended(1))
+        assert (fault.status, fault.line) == (3, f"cutadapt: {wanted}")
+        assert one.is_stricter(said) == is_stricter
+
+
+def test_the_same_inputs_into_nowhere():
+    given = arguments.Arguments(
+        ["-1", "a", "-2", "b", "--adapters", "A", "--poly-g", "--cutadapt=-m 9", "--out", "s",
+         "--html", "x", "--pairs", "7", "--no-name-check", "MINLEN:3"])
+    got = given.into_nowhere()
+    assert (got.uses_cutadapt(), given.uses_cutadapt()) == (False, True)
+    assert got.outputs == dict.fromkeys(arguments.READS, "/dev/null") != given.outputs
+    assert (got.forward, got.steps, got.pairs) == (["a"], ["MINLEN:3"], 7)
+    assert got.passed == given.passed
+
+
+@pytest.mark.parametrize("words, wanted", (
+    ([], None), (["--progress"], True), (["--no-progress"], False),
+    (["--through", "cat"], False), (["--through", "cat", "--progress"], True),
+))
+def test_progress_beside_a_command(words, wanted):
+    assert arguments.Arguments(words).progress is wanted
+
+
+def test_signals_that_end_a_process():
+    heard = {signal.Signals(number).name if number < 34 else number for number in SIGNALS}
+    assert {"SIGINT", "SIGTERM", "SIGABRT", "SIGPWR", "SIGIO", "SIGUSR1", 34, 64} <= heard
+    assert not heard & {"SIGKILL", "SIGSTOP", "SIGTSTP", "SIGCHLD", "SIGPIPE", "SIGSEGV", "SIGCONT"}
 
 
 class TestProgress(Pieces):
@@ -312,6 +367,10 @@ class TestReport(Pieces):
         assert "first_pairs" not in got
         got = self.names(["-i", "\udcff.gz", "--trimlog", "log", "--interleaved", "-"] + unpaired)
         assert (got["command"], got["inputs"]) == ("IL", {"interleaved": "\ufffd.gz"})
+        assert "through" not in got
+        got = self.names(["-i", "a", "--interleaved", "s", "--through", "bwa \udcff"] + unpaired)
+        assert got["through"] == ["bwa \ufffd"]
+        got = self.names(["-i", "\udcff.gz", "--trimlog", "log", "--interleaved", "-"] + unpaired)
         wanted = dict(zip(report.OUTPUTS, ("-", "u1", "-", "u2", "log")))
         assert got["outputs"] == wanted
 
@@ -461,6 +520,7 @@ class TestFiles(Pieces):
             assert self.refused(checks.check_mates, record(forward), record(reverse), "f, r") == (3, start)
         for forward, reverse in (
             (b"@a 1:N:0:A", b"@a 2:N:0:A"), (b"@a 1:N:0:A", b"@a 3:N:0:A"), (b"@a/1", b"@a/2"),
+            (b"@a/1 1:N:0:A", b"@a/2 1:N:0:A"),
             (b"@a 2:N:0:A", b"@a 3:N:0:A"), (b"@a", b"@a 1:N:0:A"), (b"@a 2:x", b"@a 1:x"),
         ):
             checks.check_mates(record(forward), record(reverse), "f, r")

@@ -56,10 +56,12 @@ ROWS = {
         ends(Ended(3, b"odd"), cutadapt=CutadaptEnd(Ended(1), FAILED, None)), (3, "cutadapt: why")),
     "cutadapt met a closed pipe": (
         ends(Ended(3, b"odd"), cutadapt=CutadaptEnd(Ended(-13), None, None)), (3, "odd")),
-    "cutadapt still runs": (ends(cutadapt=CutadaptEnd(None, None, None)), (4, "cutadapt was ended")),
+    "cutadapt still runs": (
+        ends(cutadapt=CutadaptEnd(None, None, None)), (4, "cutadapt was ended")),
     "cutadapt has no report": (ends(cutadapt=clean(None)), (4, "cutadapt: no report")),
     "a pair is lost between both": (
-        ends(cutadapt=clean(8)), (4, "cutadapt passed on 8 pairs, but fq_prog read another number")),
+        ends(cutadapt=clean(8)),
+        (4, "cutadapt passed on 8 pairs, but fq_prog read another number")),
     "the mapper fails after the program": (ends(writer=MAPPER), (4, "cannot write s.bam: why")),
     "a cut file before the mapper, which met its end": (
         ends(Ended(3, b"short"), (CUT, GOOD), writer=MAPPER),
