@@ -163,7 +163,7 @@ EXIT STATUS
 
     kill -9 leaves hidden files, such as .OUT.tibzharuk.5d3f00a1, and if it
     comes while outputs get their names, some have theirs. The children end with
-    it, cutadapt a moment later.
+    it, cutadapt and the programs of --through a moment later.
 
 EXAMPLES
     tibzharuk trim -1 s_L00?_R1.fq.gz -2 s_L00?_R2.fq.gz --out s \\
