@@ -2,24 +2,30 @@
 //! shows what becomes of two built-in pairs.
 #![tactic(auto)]
 
-ghost use Rattle.std.specs.Prelude.{◌≡◌, ◌≢◌, ◌⊎◌, [], map, IfOk};
+ghost use Rattle.std.specs.Prelude.{◌≡◌, ◌≢◌, ◌⊎◌, ◌++◌, Some, None, [], IsSome, IsTrue, map, IfOk};
 ghost use Rattle.std.specs.Process.{exit_status};
 ghost use Rattle.std.specs.String.{string_bytes};
-ghost use Rattle.fq_cli.specs.Words.{words_fault};
-ghost use Rattle.fq_app.specs.Answers.{AreRefused, AreCalls};
+ghost use Rattle.fq_cli.specs.Requests.{Asking};
+ghost use Rattle.fq_cli.specs.Words.{AskedFor, words_fault};
+ghost use Rattle.fq_files_run.specs.Judging.{wrong_with};
+ghost use Rattle.fq_files_run.specs.Trimming.{KeepsUnnamed};
+ghost use Rattle.fq_files_run.specs.Leaving.{AreUntrimmed};
+ghost use Rattle.fq_files_run.specs.Opening.{SparesInputs};
+ghost use Rattle.fq_app.specs.Answers.{device_of, TookText, TookLines, LacksMemory, TookMemoryLine, LacksPrint, IsUnshown, NamesDevice, PairsAnswered, AreRefused, AreCalls, print_line};
+ghost use Rattle.fq_app.specs.Example.{example_text};
+ghost use Rattle.fq_app.specs.FilesInStep.{FilesAreInStep, FilesAreInStepUpTo};
 
 use fq_app::{out_of_memory, program};
-use fq_files::SystemFiles;
+use fq_files::{Files, SystemFiles};
 use fq_text::{FromWrite, MemoryRefused, Outlet, send};
 use std::alloc::{AllocError, Global};
 use std::env::Env;
 use std::fs::File;
-use std::io::{Print, Printer, Stderr};
+use std::io::{Printer, Stderr};
 use std::process::ExitCode;
-use std::rt::Files;
 use std::sync::Wait;
 use std::thread::Threads;
-use std::{env, io, str};
+use std::{env, io, rt, str};
 
 // Linux passes no argument that is longer than 128 KiB.
 const LONGEST_WORD: usize = 1 << 17;
@@ -27,17 +33,27 @@ const LONGEST_WORD: usize = 1 << 17;
 // The last lines of an error about the arguments, as `clap` prints them.
 const MORE: &str = "\nFor more information, try '--help'.\n";
 
-// Standard output and standard error. Each has a type of its own, so no call can exchange them.
-type Output<'a, R> = FromWrite<Printer<'a, R>>;
+// What standard output is written to, and what standard error is. One type has the one and another
+// the other, so no call of `run` can exchange them.
+trait StandardOutput {}
 
-type Errors<'a> = FromWrite<Printer<'a, Stderr>>;
+trait StandardError {}
+
+impl StandardOutput for FromWrite<Printer<'_, HostRuntime>> {}
+
+impl StandardError for FromWrite<Printer<'_, Stderr>> {}
 
 fn main(rt: HostRuntime) -> ExitCode {
     let errors = rt.stderr();
     let mut out = FromWrite::new(io::writer(&rt));
     let mut err = FromWrite::new(io::writer(&errors));
+    let mut files = SystemFiles::new(rt.alloc(), &rt);
+    // An output that is the same regular file as standard output or standard error is refused.
+    if let Err(e) = keep_outlets(&mut files) {
+        return ExitCode::from(out_of_memory(&mut err, MemoryRefused::from(e)));
+    }
     match texts_of(&rt) {
-        Ok(texts) => run(rt.alloc(), &rt, &texts, &mut out, &mut err),
+        Ok(texts) => run(rt.alloc(), &rt, &texts, &mut files, &mut out, &mut err),
         Err(error) if error.kind() == io::ErrorKind::InvalidData => {
             ExitCode::from(refuse_bytes(&rt, &mut err))
         }
@@ -46,43 +62,115 @@ fn main(rt: HostRuntime) -> ExitCode {
     }
 }
 
-// Runs the program on these arguments, over the files of the system. The clauses are those of
-// `program` which speak of the arguments, the outlets and the status.
-fn run<R: Threads + Wait + Files<File = File> + Print + Copy + Send + 'static>(
-    alloc: Global,
-    rt: &R,
-    texts: &[String],
-    out: &mut Output<'_, R>,
-    err: &mut Errors<'_>,
-) -> ExitCode
-    requires out { out.old.failures ≡ 0 }
-    requires err { err.old.failures ≡ 0 }
+// Runs the program on these arguments. The clauses are those of `program`, of any files and
+// outlets: for the system's, whose bytes no proof knows, those on bytes would say nothing.
+fn run<
+    R: Threads + Wait + Copy + Send + 'static,
+    T: Files,
+    O: Outlet + StandardOutput,
+    E: Outlet + StandardError,
+>(alloc: Global, rt: &R, texts: &[String], files: &mut T, out: &mut O, err: &mut E) -> ExitCode
+    requires out { (O.state out.old).failures ≡ 0 }
+    requires err { (E.state err.old).failures ≡ 0 }
+
+    // Arguments that parse as `PE` or `IL` are carried out: the pairs are trimmed, or `err` gets
+    // the reason why not. A wrong request is refused before a file is touched.
+    ensures pairs { (a : Asking) → AskedFor (map string_bytes texts.now) (Some a)
+        → PairsAnswered a (T.state files.old) (T.state files.new)
+        (device_of O.state out.old out.new)
+        (device_of E.state err.old err.new) (exit_status result) }
+    ensures wrong { (a : Asking) → AskedFor (map string_bytes texts.now) (Some a)
+        → IsSome (wrong_with a) → files.new ≡ files.old }
+
+    // At status 0 and 3 the files of the outputs that have a name of their own are in step with
+    // each other and with the summary that was printed, and at status 0 no fault ended the pairs.
+    // At every status except 6 each file of an output holds what it held before, or nothing, or
+    // these files are in step for the first pairs, up to the block in which a write failed.
+    ensures in_step { (a : Asking) → AskedFor (map string_bytes texts.now) (Some a)
+        → (exit_status result ≡ 0) ⊎ (exit_status result ≡ 3) → IsTrue (T.state files.old).tells
+        → FilesAreInStep a (T.state files.old).bytes (T.state files.new).bytes
+        (device_of O.state out.old out.new) (exit_status result) }
+    ensures left_in_step { (a : Asking)
+        → AskedFor (map string_bytes texts.now) (Some a)
+        → exit_status result ≢ 6 → IsTrue (T.state files.old).tells
+        → AreUntrimmed a (T.state files.old).bytes (T.state files.new).bytes
+        ⊎ FilesAreInStepUpTo a (T.state files.old).bytes (T.state files.new).bytes }
+
+    // At status 4 the line names a file or device that was indeed refused or has failed. At 0 and 3
+    // no device of the files has failed, and each output, the log and the report were flushed after
+    // their last write.
+    ensures device { (a : Asking) → AskedFor (map string_bytes texts.now) (Some a)
+        → exit_status result ≡ 4
+        → NamesDevice a (T.state files.old) (T.state files.new)
+        (device_of O.state out.old out.new) (device_of E.state err.old err.new) }
+    ensures sound { (exit_status result ≡ 0) ⊎ (exit_status result ≡ 3)
+        → (T.state files.new).has_failed ≡ (T.state files.old).has_failed }
+    ensures flushed { (exit_status result ≡ 0) ⊎ (exit_status result ≡ 3)
+        → (T.state files.new).is_unflushed ≡ (T.state files.old).is_unflushed }
+
+    // Only the files of the outputs and of the report change.
+    ensures rest { (a : Asking) → AskedFor (map string_bytes texts.now) (Some a)
+        → IsTrue (T.state files.old).tells
+        → KeepsUnnamed a (T.state files.old).bytes (T.state files.new).bytes }
+
+    // If an output or the report leads to an input, no file changes, and the status is neither 0
+    // nor 3.
+    ensures spared { (a : Asking) → AskedFor (map string_bytes texts.now) (Some a)
+        → SparesInputs a ((exit_status result ≢ 0) × (exit_status result ≢ 3))
+        (T.state files.old) (T.state files.new) }
+
+    // Other arguments touch no file. `EXAMPLE` is printed unless `out`, memory or a thread fails.
+    // Arguments that don't parse are refused; help and the version are printed.
+    ensures example { AskedFor (map string_bytes texts.now) None
+        → (files.new ≡ files.old)
+        × ((exit_status result ≡ 0) ⊎ ((exit_status result ≡ 4)
+        ⊎ ((exit_status result ≡ 5) ⊎ (exit_status result ≡ 6)))) }
+    ensures shown { AskedFor (map string_bytes texts.now) None
+        → exit_status result ≡ 0 → IsTrue (O.state out.old).tells
+        → (O.state out.new).taken ≡ (O.state out.old).taken ++ example_text }
+    ensures unshown { AskedFor (map string_bytes texts.now) None → exit_status result ≢ 0
+        → IsUnshown (device_of O.state out.old out.new)
+        (device_of E.state err.old err.new) (exit_status result) }
+    ensures refused { words_fault (map string_bytes texts.now) ≢ []
+        → files.new ≡ files.old }
     ensures usage { AreRefused (words_fault (map string_bytes texts.now))
         → (exit_status result ≡ 1) ⊎ (exit_status result ≡ 5) }
     ensures called { AreCalls (words_fault (map string_bytes texts.now)) → exit_status result ≢ 1 }
-    ensures usage_only { exit_status result ≡ 1
-        → (words_fault (map string_bytes texts.now) ≢ []) × (out.new ≡ out.old) }
-    ensures finished { exit_status result ≡ 0 → (out.new.failures ≡ 0) × (err.new ≡ err.old) }
+    ensures usage_only { exit_status result ≡ 1 → (words_fault (map string_bytes texts.now) ≢ [])
+        × (out.new ≡ out.old) }
+    ensures help { words_fault (map string_bytes texts.now) ≢ [] → exit_status result ≡ 0
+        → TookLines (device_of O.state out.old out.new) }
+    ensures usage_lines { exit_status result ≡ 1 → TookLines (device_of E.state err.old err.new) }
+    ensures unprinted { words_fault (map string_bytes texts.now) ≢ [] → exit_status result ≡ 4
+        → LacksPrint (device_of O.state out.old out.new)
+        (device_of E.state err.old err.new) (exit_status result) }
+
+    // At status 0 `err` has taken nothing and `out` the whole text. Unless `out` failed, nothing is
+    // printed at statuses other than 0 and 3. If it failed, the status is 3, or 4 with the line for
+    // that. Refused memory is reported as such; only a request may have a reason for it.
+    ensures finished { exit_status result ≡ 0
+        → ((O.state out.new).failures ≡ 0) × (err.new ≡ err.old) }
     ensures quiet { exit_status result ≢ 0 → exit_status result ≢ 3
-        → out.new.failures ≡ 0 → out.new ≡ out.old }
-    ensures failed { out.new.failures ≢ 0
-        → (exit_status result ≡ 3) ⊎ (exit_status result ≡ 4) }
-    ensures memory { exit_status result ≡ 5 → out.new ≡ out.old }
+        → (O.state out.new).failures ≡ 0 → out.new ≡ out.old }
+    ensures failed { (O.state out.new).failures ≢ 0
+        → (exit_status result ≡ 3) ⊎ ((exit_status result ≡ 4)
+        × TookText (device_of E.state err.old err.new) print_line) }
+    ensures memory { exit_status result ≡ 5 → (out.new ≡ out.old)
+        × TookMemoryLine (device_of E.state err.old err.new) }
+    ensures unread { words_fault (map string_bytes texts.now) ≢ [] → exit_status result ≡ 5
+        → LacksMemory (device_of E.state err.old err.new) (exit_status result) }
 {
     let words = match words_of(alloc, texts) {
         Ok(words) => words,
         Err(e) => return ExitCode::from(out_of_memory(err, MemoryRefused::from(e))),
     };
-    let mut files = SystemFiles::new(alloc, rt);
-    // An output that is the same regular file as standard output or standard error is refused.
-    if let Err(e) = keep_outlets(&mut files) {
-        return ExitCode::from(out_of_memory(err, MemoryRefused::from(e)));
-    }
-    ExitCode::from(program(alloc, rt, &words, &mut files, out, err))
+    ExitCode::from(program(alloc, rt, &words, files, out, err))
 }
 
 // Keeps the files of standard output and standard error from becoming outputs.
-fn keep_outlets<R: Files<File = File>>(files: &mut SystemFiles<'_, R>) -> Result<(), AllocError> {
+fn keep_outlets<R: rt::Files<File = File>>(
+    files: &mut SystemFiles<'_, R>,
+) -> Result<(), AllocError> {
     files.keep("/dev/stdout")?;
     files.keep("/dev/stderr")
 }
