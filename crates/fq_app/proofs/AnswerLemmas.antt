@@ -26,6 +26,7 @@ use Rattle.fq_files_run.proofs.LeavingLemmas.{refusal_untrimmed, report_untrimme
 use Rattle.fq_files_run.specs.Refusals.{status_of, IsRefusable}
 use Rattle.fq_app.specs.Answers.{Device, EndsWhole, IsRefusal, IsEnding, IsUnprinted, IsUntold, IsUnreported, IsReportLeft, IsReportUncut, LacksMemory, TookMemoryLine, TookText, NamesRefused, NamesDevice, PairsAnswered, Refuses, Tells, TookLine, memory_line, print_line}
 use Rattle.fq_files_run.specs.declared.refusal.Refusal.{Refusal}
+use Rattle.fq_files_run.specs.Seeing.{IsSaid}
 use Rattle.fq_files_run.specs.declared.seeing.EndingSeen.{EndingSeen}
 use Rattle.fq_files_run.specs.declared.reporting.Reported.{Reported}
 use Rattle.fq_files_run.specs.declared.reporting.Reported.TheVariants as report
@@ -231,6 +232,8 @@ refused_answer a old new out err status refusal (inr lacks) first late left repo
 -- the report holds.
 pub record IsRun (a : Asking) (old new : FilesState) (outcome : Outcome)
     (counts : Counts) (reported : Reported) : Type 0 where
+  -- no gate ended it
+  pub no_gate : outcome ≢ Gate
   -- if it ended whole, all pairs were trimmed
   pub trims : IsTrue old.tells → IsTrue (ends_whole outcome) →
       TrimsFiles a old.bytes new.bytes outcome counts
@@ -292,9 +295,11 @@ module _ (a : Asking) (old new : FilesState) (outcome : Outcome) (counts : Count
   is_uncut (inr written) tells name named = inr (held_as report.Written written tells name named)
 
   -- the line of a run that was made
-  pub told_line : (seen : EndingSeen) (out err : Device) (status : ℕ) →
+  pub told_line : (seen : EndingSeen)
+      (said : IsTrue old.tells → IsSaid a.inputs old.bytes (settled outcome) seen)
+      (out err : Device) (status : ℕ) →
       Tells a seen outcome reported out err status → TookLine a old new out err status
-  told_line seen out err status (inl (which, inl ending)) = record {
+  told_line seen said out err status (inl (which, inl ending)) = record {
     text = ending_line a seen outcome;
     fits = inl (inr (record {
       outcome = outcome;
@@ -302,13 +307,15 @@ module _ (a : Asking) (old new : FilesState) (outcome : Outcome) (counts : Count
       status_is = sym ending.0;
       text_is =
           refl;
+      no_gate = run.no_gate;
+      said = said;
       left =
           run.ended;
       unreported = is_empty which;
     }));
     took = ending.1;
   }
-  told_line seen out err status (inl (which, inr (inl unprinted))) = record {
+  told_line seen said out err status (inl (which, inr (inl unprinted))) = record {
     text = print_line;
     fits = inr (inl (record {
       status_is = unprinted.1.1;
@@ -325,10 +332,10 @@ module _ (a : Asking) (old new : FilesState) (outcome : Outcome) (counts : Count
     }));
     took = unprinted.1.2;
   }
-  told_line seen out err status (inl (which, inr (inr untold))) =
+  told_line seen said out err status (inl (which, inr (inr untold))) =
       lacks_line a old new out err status untold.1
       (λ tells. inr (outcome, run.ended tells untold.0)) (λ tells. is_uncut which tells)
-  told_line seen out err status (inr (inl failed)) =
+  told_line seen said out err status (inr (inl failed)) =
       let due = due_as report.Failed failed.0 (λ e. absurd (cc e)) in record {
         text = report_line a failed.2.0;
         fits = inr (inr (inr (record {
@@ -345,7 +352,7 @@ module _ (a : Asking) (old new : FilesState) (outcome : Outcome) (counts : Count
         })));
         took = failed.2.1;
       }
-  told_line seen out err status (inr (inr lacks)) =
+  told_line seen said out err status (inr (inr lacks)) =
       let due = due_as (report.OutOfMemory lacks.0.0) lacks.0.1 (λ e. absurd (cc e)) in
       untold_line a old new out err status (report_memory_line a) lacks.1 (inr refl) lacks.2
       (λ tells. inr (outcome, run.ended tells (not_lane outcome due)))

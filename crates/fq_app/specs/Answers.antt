@@ -11,7 +11,7 @@ use Rattle.fq_pair.specs.declared.counts.Counts.{Counts}
 use Rattle.fq_pair.specs.declared.side.Side.{Side}
 use Rattle.fq_pair.specs.Summaries.{summary_of}
 use Rattle.fq_run.specs.Outcome.{Outcome}
-use Rattle.fq_run.specs.Outcome.TheVariants.{Lane}
+use Rattle.fq_run.specs.Outcome.TheVariants.{Lane, Gate}
 use Rattle.clap.specs.Kinds.{Kinds}
 use Rattle.clap.specs.declared.error.kind.ErrorKind.{ErrorKind}
 use Rattle.clap.specs.declared.error.kind.ErrorKind.TheVariants.{DisplayHelp, DisplayVersion}
@@ -25,6 +25,7 @@ use Rattle.fq_files_run.specs.Trimming.{IsNoOutput, TrimsFiles}
 use Rattle.fq_files_run.specs.Leaving.{RefusalLeaves, ReportLeft, HoldFirstPairs, AreLeft, TellsInputs}
 use Rattle.fq_files_run.specs.Completing.{HasFailed, ReportFailed}
 use Rattle.fq_files_run.specs.Reporting.{HoldsReport, BeginsReport}
+use Rattle.fq_files_run.specs.Seeing.{IsSaid}
 use Rattle.fq_files_run.specs.declared.seeing.EndingSeen.{EndingSeen}
 use Rattle.fq_files_run.specs.declared.reporting.Reported.{Reported}
 use Rattle.fq_files_run.specs.declared.reporting.Reported.TheVariants as report
@@ -61,12 +62,14 @@ pub record TookPart (d : Device) (text : List ℕ) : Type 0 where
 
 -- The pairs of the inputs were trimmed into the files of the outputs, up to the end of the inputs
 -- or a fault in them. The summary of their counts went to standard output. The line of the outcome,
--- which has this status, went to standard error.
+-- which has this status, went to standard error. Its reason is what the input that it names looks
+-- like.
 pub record EndsWhole (a : Asking) (old new : Holding) (out err : Device) (status : ℕ) : Type 0 where
   pub outcome : Outcome
   pub counts : Counts
   pub seen : EndingSeen
   pub trims : TrimsFiles a old new outcome counts
+  pub said : IsSaid a.inputs old (settled outcome) seen
   pub status_is : outcome_status outcome ≡ status
   pub printed : TookPart out (summary_of counts)
   pub told : TookText err (ending_line a seen outcome)
@@ -103,14 +106,16 @@ pub record IsRefusal (a : Asking)
   pub report_left : IsTrue old.tells → (name : List ℕ) → a.report ≡ Some name →
       IsNoOutput a name → ReportLeft why (old.bytes name) (new.bytes name)
 
--- an outcome of the run has this status and this line, whose reason is what the device can say that
--- the outcome names
+-- an outcome of the run, which no gate ended, has this status and this line, whose reason is what
+-- the device can say that the outcome names
 pub record IsEnding (a : Asking)
     (old new : FilesState) (status : ℕ) (text : List ℕ) : Type 0 where
   pub outcome : Outcome
   pub seen : EndingSeen
   pub status_is : outcome_status outcome ≡ status
   pub text_is : ending_line a seen outcome ≡ text
+  pub no_gate : outcome ≢ Gate
+  pub said : IsTrue old.tells → IsSaid a.inputs old.bytes (settled outcome) seen
   pub left : IsTrue old.tells → outcome ≢ Lane → HoldFirstPairs a old.bytes new.bytes outcome
   pub unreported : IsTrue old.tells → outcome_status outcome ≢ 0 →
       outcome_status outcome ≢ 3 → (name : List ℕ) → a.report ≡ Some name →

@@ -55,7 +55,7 @@ pub fn trim_files<R: Threads + Wait + Copy + Send + 'static, T: Files>(
 ) -> Result<Completed, Refusal>
     ensures completed { IfOk result (λ completed. IsCompleted (asking_of request.now)
         (T.state files.old) (T.state files.new)
-        completed.account.outcome completed.account.counts completed.reported) }
+        completed.account.outcome completed.account.counts completed.reported completed.seen) }
     ensures refused { IfErr result (λ why.
         IsRefused (asking_of request.now) why (T.state files.old) (T.state files.new)) }
     ensures unfailed { OnErr result (IsSound (T.state files.old) (T.state files.new)) }
@@ -64,8 +64,9 @@ pub fn trim_files<R: Threads + Wait + Copy + Send + 'static, T: Files>(
         → KeepsUnnamed (asking_of request.now)
         (T.state files.old).bytes (T.state files.new).bytes }
 
-    // Refused memory and an unconfirmed lane have a witness.
+    // Refused memory and an unconfirmed lane have a witness, and the gate lets every block pass.
     ensures witnessed { IfOk result (λ completed. IsWitnessed completed.account) }
+    ensures no_gate { IfOk result (λ completed. completed.account.outcome ≢ Outcome.Gate) }
 
     // If an output or the report leads to an input, no file changes.
     ensures spared { SparesInputs (asking_of request.now)
@@ -110,10 +111,12 @@ fn complete<R: Threads + Wait + Copy + Send + 'static, T: Files>(
         start (T.state files.old) (opened_of T.In.state devices.feeds)
         (outlet_states T.Target.state devices.outlets) (option_map T.Target.state devices.report)
         → settings_of (asking_of request.now) ≡ Ok settings.now
+        → wrong_with (asking_of request.now) ≡ None
         → IsCompleted (asking_of request.now) start (T.state files.new)
-        result.account.outcome result.account.counts result.reported }
+        result.account.outcome result.account.counts result.reported result.seen }
     ensures kept { OnlyStores (T.state files.old) (T.state files.new) }
     ensures witnessed { IsWitnessed result.account }
+    ensures no_gate { result.account.outcome ≢ Outcome.Gate }
 {
     let Devices {
         feeds,
@@ -164,7 +167,11 @@ fn run<R: Threads + Wait + Copy + Send + 'static, F: Feed + Drop + Send + 'stati
         (left_of F.state result.feeds) result.account in
         run.outcome ≢ Outcome.Lane → EveryEnding settings.now run }
     ensures form { form_of result.feeds ≡ (opened_of F.state feeds).form }
+    // A feed is lost only with its thread.
+    ensures returned { (side : Side) → left_of F.state result.feeds side ≡ None
+        → result.account.outcome ≡ Outcome.Spawn }
     ensures witnessed { IsWitnessed result.account }
+    ensures no_gate { result.account.outcome ≢ Outcome.Gate }
 {
     match feeds {
         Feeds::Apart { forward, reverse } => {

@@ -9,3 +9,4 @@ mod CountingLemmas
 pub mod FailureLemmas
 pub mod CompletingLemmas
 pub mod OpeningLemmas
+pub mod SaidLemmas

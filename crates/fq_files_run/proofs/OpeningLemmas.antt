@@ -1,6 +1,9 @@
 -- What a refusal leaves, in the order in which inputs are opened and outputs are made.
 use Rattle.std.proofs.Common.{◌≡◌, ◌≢◌, ◌⊎◌, ◌∙◌, ℕ, Bool, true, false, IsTrue, IsSome, Option, Some, None, option_map, Ok, Err, Result, List, refl, sym, ap, subst, inl, inr, ⊎_elim}
-use Rattle.std.specs.Prelude.{if◌then◌else◌, unwrap_or}
+use Rattle.std.specs.Prelude.{if◌then◌else◌, unwrap_or, ◌||◌}
+use Rattle.std.specs.Str.{bytes_eq}
+use Rattle.std.proofs.lemmas.Slice.Eq.{bytes_eq-Decides}
+use Rattle.std.proofs.Math.Bool.{or-true}
 use Rattle.fq_text.specs.Scores.{encoding_of}
 use Rattle.fq_files.specs.Holding.{Holding, KeepsNames}
 use Rattle.fq_files.specs.States.{FilesState, Names, MayRefuse, OnlyOpens, OnlyWrites}
@@ -305,6 +308,18 @@ report_differs a name free named is =
     ≡ false in
     clash (is_input a.inputs name) is (subst P named free)
 
+named_input : (inputs : InputNames) (side : Side) →
+    IsTrue (is_input inputs (input_name inputs side))
+named_input inputs Forward =
+    let same : bytes_eq inputs.forward inputs.forward ≡ true =
+    (bytes_eq-Decides inputs.forward inputs.forward).1 refl in
+    ap (λ b. b || bytes_eq inputs.forward inputs.reverse) same
+named_input inputs Reverse =
+    let same : bytes_eq inputs.reverse inputs.reverse ≡ true =
+    (bytes_eq-Decides inputs.reverse inputs.reverse).1 refl in
+    ap (λ b. bytes_eq inputs.reverse inputs.forward || b) same
+    ∙ or-true (bytes_eq inputs.reverse inputs.forward)
+
 -- a name that leads to an input once the inputs are opened is no input's, if the request is right
 no_input : (a : Asking) (P : List ℕ → Type 0) (refusal : Refusal) → same_name a ≡ None →
     report_is_input a ≡ false → IsRefusable a (λ name. IsTrue (is_input a.inputs name) ⊎ P name)
@@ -344,6 +359,16 @@ pub refusable_right : (a : Asking) (old : FilesState) (refusal : Refusal) →
 refusable_right a old refusal right refused =
     let names = right_names a (settings_of a) (same_name a) (report_is_input a) right in
     no_input a (MayRefuse old) refusal names.0 names.1 refused
+
+-- if only files of the outputs and of the report have changed, the inputs of a right request have
+-- not
+pub inputs_kept : (a : Asking) (old new : Holding) → wrong_with a ≡ None → KeepsUnnamed a old new →
+    (side : Side) → new (input_name a.inputs side) ≡ old (input_name a.inputs side)
+inputs_kept a old new right kept side =
+    let names = right_names a (settings_of a) (same_name a) (report_is_input a) right in
+    let is = named_input a.inputs side in
+    kept (input_name a.inputs side) (λ out named. differs_from a out _ names.0 named is)
+    (λ named. report_differs a _ names.1 named is)
 
 -- no output leads to an input, and nor does the report
 pub leads_nowhere : (a : Asking) (before after : Names) → after ≡ before

@@ -16,7 +16,9 @@ use Rattle.fq_files_run.specs.Judging.{settings_of}
 use Rattle.fq_files_run.specs.Trimming.{IsEmptyOutlet, KeepsUnnamed, TrimsFiles}
 use Rattle.fq_files_run.specs.Leaving.{HoldFirstPairs}
 use Rattle.fq_files_run.specs.Reporting.{IsDue, IsNotDue, KeepsOutputs, ReportHeld, TookReport}
+use Rattle.fq_files_run.specs.Seeing.{IsSaid}
 use Rattle.fq_files_run.specs.declared.account.Account.{Account}
+use Rattle.fq_files_run.specs.declared.seeing.EndingSeen.{EndingSeen}
 use Rattle.fq_files_run.specs.declared.reporting.Reported.{Reported}
 use Rattle.fq_files_run.specs.declared.reporting.Reported.TheVariants as became
 
@@ -76,10 +78,10 @@ pub record IsReportStored (a : Asking) (encoding : Encoding) (account : Account)
       (reported ≡ became.NotDue) ⊎ (reported ≡ became.Written) →
       new.is_unflushed ≡ old.is_unflushed
 
--- A run was made. Given are the files before and after it, its outcome, its counts and what became
--- of its report.
+-- A run was made. Given are the files before and after it, its outcome, its counts, what became of
+-- its report, and what is said of its outcome.
 pub record IsCompleted (a : Asking) (old new : FilesState)
-    (outcome : Outcome) (counts : Counts) (reported : Reported) : Type 0 where
+    (outcome : Outcome) (counts : Counts) (reported : Reported) (seen : EndingSeen) : Type 0 where
   -- If it ended whole, all pairs were trimmed.
   pub trims : IsTrue old.tells →
       IsTrue (ends_whole outcome) → TrimsFiles a old.bytes new.bytes outcome counts
@@ -98,6 +100,7 @@ pub record IsCompleted (a : Asking) (old new : FilesState)
   -- reported, no device has failed.
   pub failed : outcome ≢ Lane → HasFailed a old new outcome
   pub as_it_is : IsTrue old.tells → settled outcome ≡ outcome
+  pub said : IsTrue old.tells → IsSaid a.inputs old.bytes (settled outcome) seen
   pub report_failed : reported ≡ became.Failed → ReportFailed a new
   pub sound : IsTrue (ends_whole outcome) → reported ≢ became.Failed →
       new.has_failed ≡ old.has_failed

@@ -1,5 +1,11 @@
 -- What can be said of the outcome of a run.
-use Rattle.std.specs.Prelude.{Option, None, unwrap_or}
+use Rattle.std.specs.Prelude.{◌≡◌, ℕ, IsSome, Option, Some, None, List, unwrap_or}
+use Rattle.fq_text.specs.Devices.{FeedState}
+use Rattle.fq_text.specs.declared.fault.TextFault.{TextFault}
+use Rattle.fq_text.specs.Looks.{look_of}
+use Rattle.fq_files.specs.Holding.{Holding}
+use Rattle.fq_cli.specs.Requests.{InputNames, input_name}
+use Rattle.fq_run_core.specs.Endings.{failures_in}
 use Rattle.fq_text.specs.declared.seen.Look.TheVariants.{Unknown}
 use Rattle.fq_text.specs.declared.seen.Seen.{Seen}
 use Rattle.fq_text.specs.declared.seen.SystemError.{SystemError}
@@ -27,6 +33,26 @@ error_of outlets ForwardUnpaired = outlets.forward_unpaired
 error_of outlets ReversePaired = outlets.reverse_paired
 error_of outlets ReverseUnpaired = outlets.reverse_unpaired
 error_of outlets Log = unwrap_or outlets.log None
+
+-- what an input is said to look like is what its first bytes are, if its feed came back
+abbrev pub LookAsTheyAre : InputNames → Holding → (Side → Option FeedState) → InputsSeen → Type 0
+LookAsTheyAre names files left said = (side : Side) (bytes : List ℕ) → IsSome (left side) →
+    files (input_name names side) ≡ Some bytes → (input_seen said side).look ≡ look_of bytes
+
+-- no error is told of an input that has not failed
+abbrev pub FailAsTheyDid : (Side → Option FeedState) → InputsSeen → Type 0
+FailAsTheyDid left said = (side : Side) → failures_in (left side) ≡ 0 →
+    (input_seen said side).error ≡ None
+
+-- what is said of an input whose text has a fault: it looks like its first bytes, and no error is
+-- told of it
+pub record IsSaid (names : InputNames) (files : Holding) (outcome : Outcome)
+    (seen : EndingSeen) : Type 0 where
+  pub look : (side : Side) (fault : TextFault) (bytes : List ℕ) →
+      outcome ≡ Input (Text side fault) → files (input_name names side) ≡ Some bytes →
+      seen.look ≡ look_of bytes
+  pub no_error : (side : Side) (fault : TextFault) → outcome ≡ Input (Text side fault) →
+      seen.error ≡ None
 
 abbrev pub nothing_seen : Seen
 nothing_seen = record { error = None; look = Unknown }

@@ -1,6 +1,6 @@
 //! Opens the inputs, and hands their feeds back after the run.
 
-ghost use Rattle.std.specs.Prelude.{◌≡◌, ◌≢◌, ℕ, List, IsTrue, IfOk, IfErr};
+ghost use Rattle.std.specs.Prelude.{◌≡◌, ◌≢◌, ℕ, List, Some, None, IsTrue, IsSome, IfOk, IfErr};
 ghost use Rattle.std.specs.Option.{option_map};
 ghost use Rattle.fq_files.specs.States.{MayRefuse, OnlyFails, OnlyOpens};
 ghost use Rattle.fq_cli.specs.Requests.{asking_of, input_name};
@@ -8,6 +8,9 @@ ghost use Rattle.fq_files_run.specs.Trimming.{opened_of, left_of, form_of};
 ghost use Rattle.fq_files_run.specs.Leaving.{AreThere};
 ghost use Rattle.fq_files_run.specs.Opening.{AreInputsOpened, AreInputsRefused, IsInputOpened, IsInputRefused, MayLead};
 ghost use Rattle.fq_files_run.specs.Completing.{IsFeedCounted, AreFeedsCounted};
+ghost use Rattle.fq_files_run.specs.Seeing.{LookAsTheyAre, FailAsTheyDid};
+ghost use Rattle.fq_run_core.specs.Endings.{failures_in};
+ghost use Rattle.fq_text.specs.Looks.{look_of};
 
 use crate::refusal::{Refusal, source_refused};
 use fq_cli::{Inputs, Request};
@@ -89,6 +92,10 @@ pub fn inputs_done<T: Files>(
     ensures kept { OnlyFails (T.state files.old) (T.state files.new) }
     ensures counted { AreFeedsCounted (asking_of request.now).inputs
         (left_of T.In.state feeds) (T.state files.old) (T.state files.new) }
+    ensures looks { IsTrue (T.state files.old).tells
+        → LookAsTheyAre (asking_of request.now).inputs (T.state files.old).bytes
+        (left_of T.In.state feeds) result }
+    ensures why { FailAsTheyDid (left_of T.In.state feeds) result }
 {
     match feeds {
         Feeds::Apart { forward, reverse } => {
@@ -118,6 +125,11 @@ fn input_done<T: Files>(
     ensures kept { OnlyFails (T.state files.old) (T.state files.new) }
     ensures counted { IsFeedCounted (input_name (asking_of request.now).inputs side)
         (option_map T.In.state feed) (T.state files.old) (T.state files.new) }
+    ensures looks { IsTrue (T.state files.old).tells → (bytes : List ℕ)
+        → IsSome (option_map T.In.state feed)
+        → (T.state files.old).bytes (input_name (asking_of request.now).inputs side) ≡ Some bytes
+        → result.look ≡ look_of bytes }
+    ensures why { failures_in (option_map T.In.state feed) ≡ 0 → result.error ≡ None }
 {
     match feed {
         Some(feed) => files.source_done(request.input_name(side), feed),

@@ -1,5 +1,5 @@
 -- What a run guarantees if all its threads were started.
-use Rattle.std.proofs.Common.{◌≡◌, ◌<◌, ◌≤◌, ℕ, false, IsTrue, Option, Some, None, Result, Ok, Err, IfOk, IsOkAnd, List, length, refl, sym, ap, ◌∙◌, subst, arith}
+use Rattle.std.proofs.Common.{◌≡◌, ◌<◌, ◌≤◌, ℕ, Bool, true, false, IsTrue, Option, Some, None, Result, Ok, Err, IfOk, IsOkAnd, List, length, refl, sym, ap, ◌∙◌, subst, arith}
 use Rattle.std.specs.List.{AllZip}
 use Rattle.std.specs.Option.{option_map, IfSome}
 use Rattle.fq_lane.specs.History.{History, with_mark}
@@ -28,8 +28,23 @@ use Rattle.fq_run_core.specs.PairsRead.{feed_in}
 use Rattle.fq_run_core.specs.Writing.{Runs, FlushesAfter}
 use Rattle.fq_run.proofs.MatchLemmas.{Matched}
 use Rattle.fq_run.proofs.StartLemmas.{of_one}
+use Rattle.fq_run_core.specs.declared.halt.Halt.{Halt}
+use Rattle.fq_run_core.specs.declared.reading_end.ReadingEnd.{ReadingEnd}
+use Rattle.fq_run_core.specs.declared.outcome.Outcome.{Outcome}
+use Rattle.fq_run_core.proofs.VerdictLemmas.{Verdict, IsRefused, WantsMemory, FailedAt, CannotRead, HasNoEnd, HasFault, IsOver, verdict}
 use Rattle.fq_run_core.proofs.RunLemmas.{run_rank, run_every, run_whole}
 use Rattle.fq_run.proofs.ThreadLemmas.{runs_threaded}
+
+-- the outcome is `Gate` only if a worker stopped at the gate
+gate_judged : (halt : Halt) (why : Option ReadingEnd) (failed : Option Out) (o : Outcome) →
+    Verdict halt why failed o → o ≡ outcome.Gate → halt.gate ≡ true
+gate_judged halt why failed o (IsRefused gate is) at = gate
+gate_judged halt why failed o (WantsMemory is) at = absurd (let e = sym is ∙ at in cc)
+gate_judged halt why failed o (FailedAt out a b c is) at = absurd (let e = sym is ∙ at in cc)
+gate_judged halt why failed o (CannotRead side a b c is) at = absurd (let e = sym is ∙ at in cc)
+gate_judged halt why failed o (HasNoEnd side a b c is) at = absurd (let e = sym is ∙ at in cc)
+gate_judged halt why failed o (HasFault fault a b c d is) at = absurd (let e = sym is ∙ at in cc)
+gate_judged halt why failed o (IsOver a b c is) at = absurd (let e = sym is ∙ at in cc)
 
 -- a confirmed start lane carried the item that was put
 started_some : (r : Result (History (Unit {0})) NotEnded) (s start : History (Unit {0})) →
@@ -51,6 +66,8 @@ module _ {S : Type 0} (state : S → SourceState) (c : Choices) (s : SourceState
     AllZip (Matched c.tallied c.steps) dealt.closings.items k.replies.items)
     (lanes : length to ≡ w) (pos : 0 < w) (collects : Collects c.tallied w before mid k)
     (over : k.phase ≡ Writing → ⊥) (flushed : FlushesAfter (failed_in k.phase) mid after failed)
+    (holds : Bool) (shut : Each3 Confirmed dealt.closings.items worked k.replies.items →
+    k.halt.gate ≡ true → IsTrue holds)
   where
     -- the run
     abbrev the_run : Run
@@ -119,17 +136,24 @@ module _ {S : Type 0} (state : S → SourceState) (c : Choices) (s : SourceState
           failed ending.outcome flushed (ends.outcome_is none) fresh.forward fresh.reverse
           ends_so (record { forward = told.forward; reverse = told.reverse }))
 
+      gate_is : ending.outcome ≡ outcome.Gate → IsTrue holds
+      gate_is at = shut (ends.workers none) (gate_judged k.halt dealt.why failed _
+          (verdict k.halt dealt.why failed (λ going sound. absurd (read_on going)))
+          (sym (ends.outcome_is none) ∙ at))
+
     forward_there : option_map forward_of ending.source ≡ None → ⊥
     forward_there gone = let e = sym (ap (option_map forward_of) ends.source) ∙ gone in cc
 
     reverse_there : option_map reverse_of ending.source ≡ None → ⊥
     reverse_there gone = let e = sym (ap (option_map reverse_of) ends.source) ∙ gone in cc
 
-    by_end : (u : Option NotEnded) → ending.unended ≡ u → IsThreaded c the_run u ending.refused
+    by_end : (u : Option NotEnded) → ending.unended ≡ u →
+        IsThreaded c holds the_run u ending.refused
     by_end None none = record {
       lane = λ at. absurd (let r = rank_is none in let e = ap rank at in omega arith);
       no_other = λ there. absurd cc;
       memory = ends.memory;
+      gate = gate_is none;
       forward = λ gone. absurd (forward_there gone);
       reverse = λ gone. absurd (reverse_there gone);
       together = of_one forward_of reverse_of ending.source;
@@ -144,6 +168,7 @@ module _ {S : Type 0} (state : S → SourceState) (c : Choices) (s : SourceState
           lane = λ at. refl;
           no_other = λ u. lane;
           memory = ends.memory;
+          gate = λ at. absurd (let e = sym lane ∙ at in cc);
           forward = λ gone. absurd (forward_there gone);
           reverse = λ gone. absurd (reverse_there gone);
           together = of_one forward_of reverse_of ending.source;
@@ -154,5 +179,5 @@ module _ {S : Type 0} (state : S → SourceState) (c : Choices) (s : SourceState
         }
 
     -- what is promised of a run on several threads holds if all its threads were started
-    pub threaded : IsThreaded c the_run ending.unended ending.refused
+    pub threaded : IsThreaded c holds the_run ending.unended ending.refused
     threaded = by_end ending.unended refl

@@ -1,5 +1,5 @@
 -- A run whose threads could not all be started.
-use Rattle.std.proofs.Common.{◌≡◌, ◌↔◌, Option, Some, None, IfSome, IsSome, false, IsTrue, Result, ℕ, ◌-◌, ◌<◌, List, [], ◌∷◌, ◌++◌, length, take, refl, sym, ap, ◌∙◌, subst, arith, ◌≤◌, ◌^◌, vec_len, inl}
+use Rattle.std.proofs.Common.{◌≡◌, ◌↔◌, Option, Some, None, IfSome, IsSome, false, IsTrue, Result, ℕ, ◌-◌, ◌<◌, List, [], ◌∷◌, ◌++◌, length, take, refl, sym, ap, ◌∙◌, subst, arith, ◌≤◌, ◌^◌, vec_len, inl, Bool}
 use Rattle.fq_lane.specs.History.{History}
 use Rattle.fq_lane.specs.declared.tx.NotEnded.{NotEnded}
 use Rattle.fq_text.specs.declared.memory.MemoryRefused.{MemoryRefused}
@@ -101,7 +101,7 @@ partial run is whole = let e : IsTrue false = subst IsTrue (ap ends_whole is) wh
 
 module _ (c : Choices) (run : Run) (e : run.outcome ≡ outcome.Spawn) (none : run.counts ≡ no_counts)
     (empty : run.tally ≡ tally_if c.tallied [] []) (same : IsUntouched run)
-    (both : (run.forward_left ≡ None) ↔ (run.reverse_left ≡ None)) where
+    (both : (run.forward_left ≡ None) ↔ (run.reverse_left ≡ None)) (holds : Bool) where
   nothing : (out : Out) → text_of out (texts_of c.steps []) ++ [] ≡ []
   nothing out = let q = no_text c.steps out in rw q refl
 
@@ -142,11 +142,12 @@ module _ (c : Choices) (run : Run) (e : run.outcome ≡ outcome.Spawn) (none : r
   }
 
   -- what is promised of a run on several threads holds if a thread was refused
-  pub unstarted : IsThreaded c run None None
+  pub unstarted : IsThreaded c holds run None None
   unstarted = record {
     lane = λ at. absurd (apart run e outcome.Lane (λ q. cc) at);
     no_other = λ some. absurd cc;
     memory = λ at. absurd (apart run e outcome.Memory (λ q. cc) at);
+    gate = λ at. absurd (apart run e outcome.Gate (λ q. cc) at);
     forward = λ gone. e;
     reverse = λ gone. e;
     together = both;
@@ -159,8 +160,8 @@ module _ (c : Choices) (run : Run) (e : run.outcome ≡ outcome.Spawn) (none : r
 pub refused : (form : Form) (c : Choices) (f r f' r' : FeedState) (before after : OutletStates)
     (counted : Total) (failed : Option Out) (lacked : Option MemoryRefused) → IsSome lacked →
     f' ≡ f → r' ≡ r → counted ≡ no_total false → FlushesAfter None before after failed →
-    f.failures ≡ 0 → r.failures ≡ 0 →
-    IsThreaded c (record {
+    f.failures ≡ 0 → r.failures ≡ 0 → {holds : Bool} →
+    IsThreaded c holds (record {
       form = form;
       forward = f;
       reverse = r;
@@ -181,6 +182,7 @@ refused form c f r f' r' before after counted failed lacked some same also none 
       lane = λ at. absurd cc;
       no_other = λ there. absurd cc;
       memory = λ at. some;
+      gate = λ at. absurd cc;
       forward = λ gone. absurd cc;
       reverse = λ gone. absurd cc;
       together = (λ gone. absurd cc, λ gone. absurd cc);
@@ -208,8 +210,9 @@ pub closed : {S F G : Type 0} (state : S → SourceState) (fs : F → FeedState)
     (lacked : Option MemoryRefused) → o ≡ e.outcome → counted ≡ e.total → u ≡ e.unended →
     lacked ≡ e.refused → f' ≡ option_map forward_of e.source →
     r' ≡ option_map reverse_of e.source →
-    IsThreaded c (run_from state s before after e) e.unended e.refused →
-    IsThreaded c (record {
+    {holds : Bool} →
+    IsThreaded c holds (run_from state s before after e) e.unended e.refused →
+    IsThreaded c holds (record {
       form = form;
       forward = fs f;
       reverse = gs r;
@@ -224,7 +227,7 @@ pub closed : {S F G : Type 0} (state : S → SourceState) (fs : F → FeedState)
       tally = counted.tally;
     }) u lacked
 closed state fs gs forward_of reverse_of first second form c s f r is before after e o counted f' r'
-    u lacked outcome_is counts_are ended lacked_is left right t =
+    u lacked outcome_is counts_are ended lacked_is left right {holds} t =
     let R : SourceState → Outcome → Total → Option FeedState → Option FeedState → Run =
     λ z x n p q. record {
       form = z.form;
@@ -251,11 +254,11 @@ closed state fs gs forward_of reverse_of first second form c s f r is before aft
     e.source f' left)
     ∙ ap (λ x. R fresh o counted (option_map fs f') x)
     (left_as reverse_of gs (λ x. feed_in (state x).reverse) second e.source r' right) in
-    subst (λ (v : Run). IsThreaded c v u lacked) same
-    (subst (λ (v : Option MemoryRefused). IsThreaded c (run_from state s before after e) u v)
+    subst (λ (v : Run). IsThreaded c holds v u lacked) same
+    (subst (λ (v : Option MemoryRefused). IsThreaded c holds (run_from state s before after e) u v)
     (sym lacked_is)
-    (subst (λ (v : Option NotEnded). IsThreaded c (run_from state s before after e) v e.refused)
-    (sym ended) t))
+    (subst (λ (v : Option NotEnded). IsThreaded c holds (run_from state s before after e) v
+    e.refused) (sym ended) t))
 
 -- a dealer whose lanes are new, over a source that nothing was read from
 pub can_deal : {S : Type 0} (workers : ℕ) (c : Choices) (s : SourceState) (dealer : Dealer S)

@@ -211,7 +211,8 @@ module _ (c : Choices) (old new : SourceState) (mates : List Mates) (why : Optio
 -- a worker that stopped
 halted : (why : Cause) (k : Collector) → IsHeard why k → k.halt ≡ no_halt → ⊥
 halted cause.Gate k heard sound = let e = sym heard ∙ ap (λ (h : Halt). h.gate) sound in cc
-halted cause.Memory k heard sound = let e = sym heard ∙ ap (λ (h : Halt). h.memory) sound in cc
+halted (cause.Memory refused) k heard sound =
+    let e = sym heard ∙ ap (λ (h : Halt). h.memory) sound in cc
 
 module _ (form : Form) (c : Choices) (f r : FeedState) (old new : SourceState)
     (to : List (History Numbered)) (closings : List (Result (History Numbered) NotEnded))

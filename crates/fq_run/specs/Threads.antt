@@ -1,6 +1,6 @@
 -- A run on several threads: what is ready before its threads start, how it is concluded, and what
 -- it guarantees.
-use Rattle.std.specs.Prelude.{◌≡◌, ◌≢◌, ◌≤◌, ◌<◌, ℕ, IsTrue, ◌↔◌, List, [], length, vec_len, vec_capacity}
+use Rattle.std.specs.Prelude.{◌≡◌, ◌≢◌, ◌≤◌, ◌<◌, ℕ, Bool, IsTrue, ◌↔◌, List, [], length, vec_len, vec_capacity}
 use Rattle.std.specs.Prelude.{Option, Some, None, IfSome, IsSome, Result, IsOkAnd}
 use Rattle.std.specs.List.{AllZip}
 use Rattle.std.specs.Option.{option_map}
@@ -68,7 +68,7 @@ pub record IsManned {S : Type 0} (crew : Crew S) (replies : List (History Reply)
   pub some : 0 < length replies
   pub laid : Each3 Laid crew.dealer.promise.to.value.items ends replies
   pub seated : AllZip
-      (Seated crew.dealer.promise.settings.tallied crew.dealer.promise.settings.steps)
+      (Seated crew.dealer.promise.settings.tallied crew.dealer.promise.settings.steps crew.holds)
       ends crew.hands.items
   pub start : crew.dealer.promise.start.value ≡ fresh crew.starter.name
   pub starter : crew.starter ≡ fresh crew.starter.name
@@ -106,15 +106,16 @@ run_from state s before after ending = record {
 }
 
 -- What a run on several threads guarantees. The outcome is `Lane` exactly if a lane could not be
--- confirmed. If it is `Memory`, there is a witness. Feeds are lost only if a thread was refused,
--- and only both together. If a thread was refused, nothing was read or written. If the run ended at
--- the end of the input, or at a fault in it, all pairs before that were trimmed. `EveryEnding`
--- holds unless the outcome is `Lane`.
-pub record IsThreaded (c : Choices) (run : Run)
+-- confirmed. If it is `Memory`, there is a witness; if it is `Gate`, the gate may hold back a
+-- block. Feeds are lost only if a thread was refused, and only both together. If a thread was
+-- refused, nothing was read or written. If the run ended at the end of the input, or at a fault in
+-- it, all pairs before that were trimmed. `EveryEnding` holds unless the outcome is `Lane`.
+pub record IsThreaded (c : Choices) (holds : Bool) (run : Run)
     (unended : Option NotEnded) (refused : Option MemoryRefused) : Type 0 where
   pub lane : run.outcome ≡ outcome.Lane → IsSome unended
   pub no_other : IsSome unended → run.outcome ≡ outcome.Lane
   pub memory : run.outcome ≡ outcome.Memory → IsSome refused
+  pub gate : run.outcome ≡ outcome.Gate → IsTrue holds
   pub forward : run.forward_left ≡ None → run.outcome ≡ outcome.Spawn
   pub reverse : run.reverse_left ≡ None → run.outcome ≡ outcome.Spawn
   pub together : (run.forward_left ≡ None) ↔ (run.reverse_left ≡ None)

@@ -20,6 +20,8 @@ pub(crate) struct Crew<S: PairReader> {
     pub(crate) dealer: PromisedHandle<Dealt<S>, Dealing<S>>,
     /// The workers.
     pub(crate) hands: Vec<PromisedHandle<Worked, Job>>,
+    /// Whether the gate of the workers may hold back a block.
+    pub(crate) holds: bool,
     /// Room for what the workers hand back.
     pub(crate) worked: Vec<Worked>,
 }

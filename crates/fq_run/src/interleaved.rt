@@ -6,6 +6,7 @@ ghost use Rattle.fq_run_core.specs.Devices.{outlet_states, AreHealthy};
 ghost use Rattle.fq_run_core.specs.Outcomes.{is_unmatched};
 ghost use Rattle.fq_run_core.specs.Endings.{interleaved_run_of, AreTold, ends_whole, IsTrimmed, IsUntouched, EveryEnding};
 ghost use Rattle.fq_run.specs.Threads.{IsThreaded};
+ghost use Rattle.std.specs.Arc.{arc_value};
 
 use crate::conclusion::Conclusion;
 use crate::threads::run;
@@ -42,6 +43,7 @@ pub fn run_threads_mixed<
     ensures lane { result.outcome ≡ Outcome.Lane → IsSome result.unended }
     ensures no_other { IsSome result.unended → result.outcome ≡ Outcome.Lane }
     ensures memory { result.outcome ≡ Outcome.Memory → IsSome result.refused }
+    ensures gate { result.outcome ≡ Outcome.Gate → IsTrue (H.holds (arc_value gate)) }
     ensures unmatched { IsSome result.unmatched → is_unmatched result.outcome ≡ true }
     ensures feed { result.feed ≡ None → result.outcome ≡ Outcome.Spawn }
     // If a thread was refused, the outlets are unchanged, and so is the feed if it is handed back.
@@ -78,7 +80,8 @@ fn begin<
 ) -> MixedEnding<F>
     requires feed { (F.state feed).failures ≡ 0 }
     requires outlets { AreHealthy (outlet_states O.state outlets.old) }
-    ensures threaded { IsThreaded settings.now (interleaved_run_of F.state (outlet_states O.state)
+    ensures threaded { IsThreaded settings.now (H.holds (arc_value gate.now))
+        (interleaved_run_of F.state (outlet_states O.state)
         feed outlets.old outlets.new result) result.unended result.refused }
     ensures unmatched { IsSome result.unmatched → is_unmatched result.outcome ≡ true }
 {

@@ -1,6 +1,7 @@
 //! A run on several threads, over any source of pairs.
 
 ghost use Rattle.std.specs.Prelude.{◌≡◌, ◌≤◌, true, IfOk};
+ghost use Rattle.std.specs.Arc.{arc_value};
 ghost use Rattle.fq_text.specs.Reading.{text_limit};
 ghost use Rattle.fq_run.specs.Confirming.{CanConfirm};
 ghost use Rattle.fq_run_core.specs.Totals.{no_total};
@@ -47,7 +48,8 @@ pub(crate) fn run<
     requires fresh { IsFresh settings.now (S.state source) }
     requires few { (S.state source).most_bytes ≤ text_limit }
     requires outlets { AreHealthy (outlet_states O.state outlets.old) }
-    ensures { IsThreaded settings.now (run_from S.state (S.state source)
+    ensures { IsThreaded settings.now (H.holds (arc_value gate.now))
+        (run_from S.state (S.state source)
         (outlet_states O.state outlets.old) (outlet_states O.state outlets.new) result)
         result.unended result.refused }
 {
@@ -83,7 +85,8 @@ fn start<
     requires fresh { IsFresh settings.now (S.state dealer.source) }
     requires few { (S.state dealer.source).most_bytes ≤ text_limit }
     requires outlets { AreHealthy (outlet_states O.state outlets.old) }
-    ensures { IsThreaded settings.now (run_from S.state (S.state dealer.source)
+    ensures { IsThreaded settings.now (H.holds (arc_value gate.now))
+        (run_from S.state (S.state dealer.source)
         (outlet_states O.state outlets.old) (outlet_states O.state outlets.new) result)
         result.unended result.refused }
 {
@@ -113,6 +116,7 @@ fn start<
         starter,
         dealer,
         hands,
+        holds: (**gate).may_hold(),
         worked,
     };
     attend(rt, crew, total, replies, outlets)
@@ -131,7 +135,7 @@ fn attend<R: Threads + Wait, S: PairReader, O: Outlet>(
     requires fresh { IsFresh crew.dealer.promise.settings
         (S.state crew.dealer.promise.source.value) }
     requires outlets { AreHealthy (outlet_states O.state outlets.old) }
-    ensures { IsThreaded crew.dealer.promise.settings
+    ensures { IsThreaded crew.dealer.promise.settings crew.holds
         (run_from S.state (S.state crew.dealer.promise.source.value)
         (outlet_states O.state outlets.old) (outlet_states O.state outlets.new) result)
         result.unended result.refused }
@@ -141,6 +145,7 @@ fn attend<R: Threads + Wait, S: PairReader, O: Outlet>(
         dealer,
         hands,
         worked,
+        ..
     } = crew;
     starter.put(rt, ());
     let started = starter.close();

@@ -6,6 +6,7 @@ ghost use Rattle.fq_run_core.specs.Devices.{outlet_states, AreHealthy};
 ghost use Rattle.fq_run_core.specs.Outcomes.{is_unmatched};
 ghost use Rattle.fq_run_core.specs.Endings.{run_of, AreTold, ends_whole, IsTrimmed, IsUntouched, EveryEnding};
 ghost use Rattle.fq_run.specs.Threads.{IsThreaded};
+ghost use Rattle.std.specs.Arc.{arc_value};
 
 use crate::conclusion::Conclusion;
 use crate::threads::run;
@@ -68,6 +69,7 @@ pub fn run_threads<
     ensures lane { result.outcome ≡ Outcome.Lane → IsSome result.unended }
     ensures no_other { IsSome result.unended → result.outcome ≡ Outcome.Lane }
     ensures memory { result.outcome ≡ Outcome.Memory → IsSome result.refused }
+    ensures gate { result.outcome ≡ Outcome.Gate → IsTrue (H.holds (arc_value gate)) }
     ensures unmatched { IsSome result.unmatched → is_unmatched result.outcome ≡ true }
     ensures forward { result.forward ≡ None → result.outcome ≡ Outcome.Spawn }
     ensures reverse { result.reverse ≡ None → result.outcome ≡ Outcome.Spawn }
@@ -109,7 +111,8 @@ fn begin<
     requires forward { (F.state forward).failures ≡ 0 }
     requires reverse { (G.state reverse).failures ≡ 0 }
     requires outlets { AreHealthy (outlet_states O.state outlets.old) }
-    ensures threaded { IsThreaded settings.now (run_of F.state G.state (outlet_states O.state)
+    ensures threaded { IsThreaded settings.now (H.holds (arc_value gate.now))
+        (run_of F.state G.state (outlet_states O.state)
         forward reverse outlets.old outlets.new result) result.unended result.refused }
     ensures unmatched { IsSome result.unmatched → is_unmatched result.outcome ≡ true }
 {

@@ -69,6 +69,14 @@ impl JustSoManyReads {
 }
 
 impl Gate for JustSoManyReads {
+    ghost use Rattle.std.specs.Prelude.{true};
+
+    ghost holds = { λ _. true };
+
+    fn may_hold(&self) -> bool {
+        true
+    }
+
     fn passes(&self, number: u64) -> bool {
         let one_more = self.wanted.saturating_add(1);
         number > 0 || (self.sees(self.wanted, LOOKS) && !self.sees(one_more, MORE_LOOKS))

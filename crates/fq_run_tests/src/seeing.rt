@@ -68,6 +68,14 @@ struct BothAtOnce {
 }
 
 impl Gate for BothAtOnce {
+    ghost use Rattle.std.specs.Prelude.{true};
+
+    ghost holds = { λ _. true };
+
+    fn may_hold(&self) -> bool {
+        true
+    }
+
     fn passes(&self, number: u64) -> bool {
         match number {
             0 => self.meeting.meet(true),

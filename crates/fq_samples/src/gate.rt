@@ -29,6 +29,14 @@ impl ScriptGate {
 }
 
 impl Gate for ScriptGate {
+    ghost use Rattle.std.specs.Prelude.{true};
+
+    ghost holds = { λ _. true };
+
+    fn may_hold(&self) -> bool {
+        true
+    }
+
     fn passes(&self, number: u64) -> bool {
         self.refusals <= self.asked.fetch_add(1, Ordering::SeqCst) && self.refused != Some(number)
     }

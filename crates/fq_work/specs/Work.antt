@@ -22,9 +22,9 @@ pub record IsWork (tallied : Bool) (steps : List Step) (rx : History Numbered) (
   pub sent : IfOk worked.closing (λ end. end ≡ with_items tx replies true)
   pub answers : Answers tallied steps took replies worked.cause
 
--- the gate may hold back some block, or is never asked
-abbrev pub MayShut : (ℕ → Bool) → ℕ → Type 0
-MayShut may_hold turns = (turns ≡ 0) ⊎ ((number : ℕ) × IsTrue (may_hold number))
+-- the gate may hold back a block, or is never asked
+abbrev pub MayShut : Bool → ℕ → Type 0
+MayShut holds turns = (turns ≡ 0) ⊎ IsTrue holds
 
 -- Intermediate states.
 

@@ -1,12 +1,13 @@
 //! What a worker replies.
 
 use fq_tally::PackedDone;
+use fq_text::MemoryRefused;
 
 /// Why a worker stopped.
 #[derive(Clone, Copy, Debug, PartialEq, Eq)]
 pub enum Cause {
     /// Memory was refused for the texts of a block.
-    Memory,
+    Memory(MemoryRefused),
     /// The gate refused a block as often as it was asked.
     Gate,
 }

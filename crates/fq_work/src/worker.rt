@@ -13,7 +13,7 @@ use crate::trimming::work_block;
 use fq_block::Block;
 use fq_lane::{Rx, Taken, Tx};
 use fq_tally::{Done, PackedDone};
-use fq_text::OutOfMemory;
+use fq_text::{MemoryRefused, OutOfMemory};
 use fq_trim::Steps;
 use std::alloc::Global;
 use std::sync::{Arc, Wait};
@@ -41,7 +41,7 @@ pub fn work<R: Wait, G: Gate>(
 ) -> Worked
     ensures work { IsWork false steps ends.rx ends.tx result }
     ensures gate { result.cause ≡ Some Cause.Gate
-        → MayShut (G.may_hold (arc_value gate)) gate_turns }
+        → MayShut (G.holds (arc_value gate)) gate_turns }
 {
     work_tallied(alloc, rt, ends, steps, false, gate, gate_turns)
 }
@@ -59,7 +59,7 @@ pub fn work_tallied<R: Wait, G: Gate>(
     ensures work { IsWork tallied steps ends.rx ends.tx result }
     // It stops at the gate only if the gate may hold back a block, or if it may not ask.
     ensures gate { result.cause ≡ Some Cause.Gate
-        → MayShut (G.may_hold (arc_value gate)) gate_turns }
+        → MayShut (G.holds (arc_value gate)) gate_turns }
 {
     let mut ends = ends;
     let making = Making {
@@ -105,7 +105,7 @@ fn answer_blocks<R: Wait, G: Gate>(
     ensures answers { HasAnswered making.now.tallied making.now.steps result
         ends.old.rx ends.new.rx ends.old.tx ends.new.tx }
     ensures gate { result ≡ Some Cause.Gate
-        → MayShut (G.may_hold gate.now) making.now.gate_turns }
+        → MayShut (G.holds gate.now) making.now.gate_turns }
 {
     // The counts of one block at a time are made here, and packed for the lane.
     let mut done = Done::new(alloc, 0);
@@ -134,7 +134,7 @@ fn answer<R: Wait, G: Gate>(
         ≡ with_item ends.old.tx (reply_to making.now.tallied making.now.steps block result) }
     ensures blocks { ends.new.rx ≡ ends.old.rx }
     ensures gate { result ≡ Some Cause.Gate
-        → MayShut (G.may_hold gate.now) making.now.gate_turns }
+        → MayShut (G.holds gate.now) making.now.gate_turns }
 {
     let worked = work_on(alloc, &block, making, gate, done, &mut ends.texts_back);
     give_back(&mut ends.blocks_back, block);
@@ -176,13 +176,15 @@ fn work_on<G: Gate>(
     ensures ok { IfOk result (λ packed.
         packed ≡ done_of making.now.tallied making.now.steps block.now) }
     ensures gate { result ≡ Err Cause.Gate
-        → MayShut (G.may_hold gate.now) making.now.gate_turns }
+        → MayShut (G.holds gate.now) making.now.gate_turns }
 {
     if !passes(gate, block.number(), making.gate_turns) {
         return Err(Cause::Gate);
     }
     let mut packed = used_texts(alloc, texts_back);
-    make(alloc, block, making, done, &mut packed).map_err(|_| Cause::Memory)?;
+    make(alloc, block, making, done, &mut packed).map_err(|error| Cause::Memory(MemoryRefused::from(
+        error,
+    )))?;
     Ok(packed)
 }
 
@@ -206,7 +208,7 @@ fn make(
 
 // Asks the gate until it lets the block pass, at most `gate_turns` times.
 fn passes<G: Gate>(gate: &G, number: u64, gate_turns: u64) -> bool
-    ensures { result ≡ false → (gate_turns ≡ 0) ⊎ IsTrue (G.may_hold gate.now number) }
+    ensures { result ≡ false → (gate_turns ≡ 0) ⊎ IsTrue (G.holds gate.now) }
 {
     for _asked in 0..gate_turns {
         if gate.passes(number) {

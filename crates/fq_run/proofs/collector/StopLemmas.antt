@@ -12,7 +12,7 @@ use Rattle.fq_work.specs.declared.reply.Cause.TheVariants.{Gate, Memory}
 use Rattle.fq_work.specs.declared.reply.Reply.{Reply}
 use Rattle.fq_work.specs.declared.reply.Reply.TheVariants.{Done as done, Stop}
 use Rattle.fq_run.specs.lanes.Items.{IsDealt}
-use Rattle.fq_run.specs.collector.Stops.{with_stop, is_stop, has_come, stops_of}
+use Rattle.fq_run.specs.collector.Stops.{witness, with_stop, is_stop, has_come, stops_of}
 use Rattle.fq_run_core.specs.declared.halt.Halt.{Halt}
 use Rattle.fq_run.proofs.lanes.LaneLemmas.{TakesAt}
 
@@ -66,24 +66,24 @@ pub stops_taken : (r : Taken Reply) (old new : List (History Reply)) (j : ℕ) �
     TakesAt r old new j → stops_of new ≡ heard_at r (stops_of old)
 stops_taken (Item (Stop Gate)) old new j lt t =
     let more = come_taken _ old new j lt t in
-    same_halt _ _ _ _ (more Gate ∙ or-true (has_come Gate old)) (more Memory
-    ∙ or-false (has_come Memory old))
-stops_taken (Item (Stop Memory)) old new j lt t =
+    same_halt _ _ _ _ (more Gate ∙ or-true (has_come Gate old)) (more (Memory witness)
+    ∙ or-false (has_come (Memory witness) old))
+stops_taken (Item (Stop (Memory refused))) old new j lt t =
     let more = come_taken _ old new j lt t in
-    same_halt _ _ _ _ (more Gate ∙ or-false (has_come Gate old)) (more Memory
-    ∙ or-true (has_come Memory old))
+    same_halt _ _ _ _ (more Gate ∙ or-false (has_come Gate old)) (more (Memory witness)
+    ∙ or-true (has_come (Memory witness) old))
 stops_taken (Item (done d)) old new j lt t =
     let more = come_taken _ old new j lt t in
-    same_halt _ _ _ _ (more Gate ∙ or-false (has_come Gate old)) (more Memory
-    ∙ or-false (has_come Memory old))
+    same_halt _ _ _ _ (more Gate ∙ or-false (has_come Gate old)) (more (Memory witness)
+    ∙ or-false (has_come (Memory witness) old))
 stops_taken Empty old new j lt t =
     let same = λ (why : Cause). ap (has_come why) t.becomes
     ∙ come_same why old j t.history (ap (λ (l : History Reply). l.items) t.takes.1) in
-    same_halt _ _ _ _ (same Gate) (same Memory)
+    same_halt _ _ _ _ (same Gate) (same (Memory witness))
 stops_taken Closed old new j lt t =
     let same = λ (why : Cause). ap (has_come why) t.becomes
     ∙ come_same why old j t.history (ap (λ (l : History Reply). l.items) t.takes) in
-    same_halt _ _ _ _ (same Gate) (same Memory)
+    same_halt _ _ _ _ (same Gate) (same (Memory witness))
 
 -- nothing came yet
 none_come : (why : Cause) (ls : List (History Reply)) →
@@ -99,4 +99,4 @@ pub no_stops : (ls : List (History Reply)) → IsDealt (length ls) [] ls →
     stops_of ls ≡ record { gate = false; memory = false }
 no_stops ls h =
     same_halt _ _ _ _ (none_come Gate ls (λ j d lt. h.items j d lt))
-    (none_come Memory ls (λ j d lt. h.items j d lt))
+    (none_come (Memory witness) ls (λ j d lt. h.items j d lt))

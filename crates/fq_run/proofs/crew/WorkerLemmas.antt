@@ -1,5 +1,5 @@
 -- The new lanes of the workers, and what the workers hand back.
-use Rattle.std.proofs.Common.{◌≡◌, ℕ, zero, suc, ◌<◌, true, List, [], ◌∷◌, ◌++◌, length, get_or, refl, sym, ap, ◌∙◌, subst, arith, Option, Result, Ok, Err, IfOk, IsOkAnd, Bool}
+use Rattle.std.proofs.Common.{◌≡◌, ℕ, zero, suc, ◌<◌, true, List, [], ◌∷◌, ◌++◌, length, get_or, refl, sym, ap, ◌∙◌, subst, arith, Option, Some, None, false, ◌||◌, IsTrue, ⊎_elim, Result, Ok, Err, IfOk, IsOkAnd, Bool}
 use Rattle.std.specs.List.{AllZip}
 use Rattle.std.specs.declared.thread.PromisedHandle.{PromisedHandle}
 use Rattle.fq_trim.specs.declared.step.Step.{Step}
@@ -11,6 +11,10 @@ use Rattle.fq_work.specs.Work.{with_items}
 use Rattle.fq_work.specs.declared.ends.WorkEnds.{WorkEnds}
 use Rattle.fq_work.specs.declared.ends.Worked.{Worked}
 use Rattle.fq_work.specs.declared.reply.Cause.{Cause}
+use Rattle.fq_work.specs.declared.reply.Cause.TheVariants.{Gate, Memory}
+use Rattle.fq_work.specs.declared.reply.Reply.TheVariants.{Done as done, Stop}
+use Rattle.std.specs.List.{list_any}
+use Rattle.fq_run.specs.collector.Stops.{is_stop, has_come}
 use Rattle.fq_work.specs.declared.reply.Reply.{Reply}
 use Rattle.fq_run.specs.lanes.Laying.{fresh, Laid}
 use Rattle.fq_run.specs.crew.Workers.{Seated, Joined}
@@ -70,7 +74,7 @@ replies_dealt w ts es fs len h = subst (λ n. IsDealt n [] fs) (laid_length ts e
 
 -- After the joins.
 
-module _ (tallied : Bool) (steps : List Step) where
+module _ (tallied : Bool) (steps : List Step) (holds : Bool) where
   -- what a worker on the lanes n and m hands back
   pub record Answered (n m : Name) (w : Worked) : Type 0 where
     -- its blocks came through lane n
@@ -80,11 +84,14 @@ module _ (tallied : Bool) (steps : List Step) where
     -- what it sent through lane m, if the lane has ended, answers these blocks
     pub answers : IfOk w.closing (λ e. (e.name ≡ m)
         × Answers tallied steps w.rx.items e.items w.cause)
+    -- if it stopped at the gate, the gate may hold back a block
+    pub gate : w.cause ≡ Some Gate → IsTrue holds
 
   answered : (t : History Numbered) (e : WorkEnds) (f : History Reply)
-      (h : PromisedHandle Worked Job) (w : Worked) → Laid t e f → Seated tallied steps e h →
+      (h : PromisedHandle Worked Job) (w : Worked) → Laid t e f → Seated tallied steps holds e h →
       Joined h w → Answered t.name f.name w
-  answered t e f h w l s j =
+  answered t e f h w l s joined =
+      let j = joined.0 in
       let rx : h.promise.rx.value ≡ fresh t.name = s.rx ∙ l.rx in
       let tx : h.promise.tx.value ≡ fresh f.name = s.tx ∙ l.tx in
       let took = j.took in
@@ -106,12 +113,15 @@ module _ (tallied : Bool) (steps : List Step) where
               subst (λ bs. Answers tallied steps bs x.items w.cause) came
                   (subst (λ rs. Answers tallied steps took rs w.cause) (sym sent) a),
             ))) w.closing j.sent;
+        gate = λ at. let some = s.asks in
+            ⊎_elim (λ never. absurd (omega (arith, some, never)))
+            (λ may. subst IsTrue s.holds_is may) (joined.1 at);
       }
 
   -- each worker that was joined has answered the blocks that came through its lane
   pub all_answered : (ts : List (History Numbered)) (es : List WorkEnds) (fs : List (History Reply))
       (hs : List (PromisedHandle Worked Job)) (ws : List Worked) →
-      Each3 Laid ts es fs → AllZip (Seated tallied steps) es hs → AllZip Joined hs ws →
+      Each3 Laid ts es fs → AllZip (Seated tallied steps holds) es hs → AllZip Joined hs ws →
       Each3 Answered (names_of ts) (names_of fs) ws
   all_answered [] [] [] [] [] l s j = tt
   all_answered (t ∷ ts) (e ∷ es) (f ∷ fs) (h ∷ hs) (w ∷ ws) l s j =
@@ -197,3 +207,46 @@ module _ (tallied : Bool) (steps : List Step) where
   matched (n ∷ ns) (m ∷ ms) cs [] fs a k = absurd a
   matched (n ∷ ns) (m ∷ ms) [] (w ∷ ws) fs a k = absurd k
   matched (n ∷ ns) (m ∷ ms) (c ∷ cs) (w ∷ ws) [] a k = absurd k
+
+  -- if a reply is a stop at the gate, so the worker stopped
+  stopped_so : (bs : List Numbered) (rs : List Reply) (cause : Option Cause) →
+      Answers tallied steps bs rs cause → list_any (is_stop Gate) rs ≡ true → cause ≡ Some Gate
+  stopped_so bs [] cause a came = absurd cc
+  stopped_so [] (r ∷ rs) cause a came = absurd a
+  stopped_so (b ∷ bs) (done d ∷ rs) cause a came = stopped_so bs rs cause a.1 came
+  stopped_so (b ∷ bs) (Stop Gate ∷ rs) cause a came = a.1
+  stopped_so (b ∷ bs) (Stop (Memory refused) ∷ rs) cause a came =
+      absurd (let none : list_any (is_stop Gate) rs ≡ false = ap (list_any (is_stop Gate)) a.0 in
+      let e = sym none ∙ came in cc)
+
+  shut_one : (n m : Name) (w : Worked) (f : History Reply)
+      (replied : Result (History Reply) NotEnded) →
+      IfOk replied (λ e. (e.name ≡ m) × Answers tallied steps w.rx.items e.items w.cause) →
+      IsOkAnd replied (λ e. f ≡ e) → list_any (is_stop Gate) f.items ≡ true → w.cause ≡ Some Gate
+  shut_one n m w f (Ok e) a same came = stopped_so w.rx.items e.items w.cause a.1
+      (ap (λ (l : History Reply). list_any (is_stop Gate) l.items) (sym same) ∙ came)
+  shut_one n m w f (Err e) a same came = absurd same
+
+  shut_first : (n m : Name) (c : Result (History Numbered) NotEnded) (w : Worked)
+      (f : History Reply) → Answered n m w → Confirmed c w f → (stopped others : Bool) →
+      list_any (is_stop Gate) f.items ≡ stopped →
+      (others ≡ true → IsTrue holds) → (stopped || others) ≡ true → IsTrue holds
+  shut_first n m c w f a k true others is rest came =
+      a.gate (shut_one n m w f w.closing a.answers k.1 is)
+  shut_first n m c w f a k false others is rest came = rest came
+
+  -- if a stop at the gate came through a confirmed lane, the gate may hold back a block
+  pub shut : (ns ms : List Name) (cs : List (Result (History Numbered) NotEnded))
+      (ws : List Worked) (fs : List (History Reply)) → Each3 Answered ns ms ws →
+      Each3 Confirmed cs ws fs → has_come Gate fs ≡ true → IsTrue holds
+  shut ns ms cs ws [] a k came = absurd cc
+  shut (n ∷ ns) (m ∷ ms) (c ∷ cs) (w ∷ ws) (f ∷ fs) a k came =
+      shut_first n m c w f a.0 k.0 (list_any (is_stop Gate) f.items) (has_come Gate fs) refl
+      (λ others. shut ns ms cs ws fs a.1 k.1 others) came
+  shut [] [] [] [] (f ∷ fs) a k came = absurd k
+  shut [] [] (c ∷ cs) [] (f ∷ fs) a k came = absurd k
+  shut [] [] cs (w ∷ ws) (f ∷ fs) a k came = absurd a
+  shut [] (m ∷ ms) cs ws (f ∷ fs) a k came = absurd a
+  shut (n ∷ ns) [] cs ws (f ∷ fs) a k came = absurd a
+  shut (n ∷ ns) (m ∷ ms) cs [] (f ∷ fs) a k came = absurd a
+  shut (n ∷ ns) (m ∷ ms) [] (w ∷ ws) (f ∷ fs) a k came = absurd k

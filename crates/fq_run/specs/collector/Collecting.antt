@@ -42,7 +42,7 @@ TookAll before now ds = OutletsTook before now (λ out. written_text out ds) Non
 -- the cause for which a worker stopped is noted
 abbrev pub IsHeard : Cause → Collector → Type 0
 IsHeard cause.Gate k = k.halt.gate ≡ true
-IsHeard cause.Memory k = k.halt.memory ≡ true
+IsHeard (cause.Memory refused) k = k.halt.memory ≡ true
 
 -- after these replies the next in turn was a Stop
 pub record HasStopped (w : ℕ) (before now : OutletStates) (ds : List Done)

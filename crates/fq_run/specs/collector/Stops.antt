@@ -2,6 +2,7 @@
 use Rattle.std.specs.Prelude.{◌≡◌, ℕ, Bool, true, false, List}
 use Rattle.std.specs.List.{list_any}
 use Rattle.fq_lane.specs.History.{History}
+use Rattle.fq_text.specs.declared.memory.MemoryRefused.{MemoryRefused}
 use Rattle.fq_work.specs.declared.reply.Cause.{Cause}
 use Rattle.fq_work.specs.declared.reply.Cause.TheVariants.{Gate, Memory}
 use Rattle.fq_work.specs.declared.reply.Reply.{Reply}
@@ -12,15 +13,19 @@ use Rattle.fq_run.specs.lanes.Items.{names_of}
 use Rattle.fq_run.specs.declared.collector.Collector.{Collector}
 use Rattle.fq_run_core.specs.declared.halt.Halt.{Halt}
 
+-- a witness that memory was refused; all are equal
+abbrev pub witness : MemoryRefused
+witness = record { made_of_an_error = tt }
+
 -- one more worker stopped
 abbrev pub with_stop : Cause → Halt → Halt
 with_stop Gate halt = record { gate = true; memory = halt.memory }
-with_stop Memory halt = record { gate = halt.gate; memory = true }
+with_stop (Memory refused) halt = record { gate = halt.gate; memory = true }
 
 -- a Stop for this cause
 abbrev pub is_stop : Cause → Reply → Bool
 is_stop Gate (Stop Gate) = true
-is_stop Memory (Stop Memory) = true
+is_stop (Memory one) (Stop (Memory other)) = true
 is_stop why reply = false
 
 -- such a Stop came through one of these lanes
@@ -28,7 +33,7 @@ abbrev pub has_come : Cause → List (History Reply) → Bool
 has_come why ls = list_any (λ (l : History Reply). list_any (is_stop why) l.items) ls
 
 abbrev pub stops_of : List (History Reply) → Halt
-stops_of ls = record { gate = has_come Gate ls; memory = has_come Memory ls }
+stops_of ls = record { gate = has_come Gate ls; memory = has_come (Memory witness) ls }
 
 -- exactly the stops that came are noted
 abbrev pub HearsAll : Collector → Type 0

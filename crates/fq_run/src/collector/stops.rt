@@ -12,7 +12,7 @@ pub(crate) fn add_stop(halt: Halt, cause: Cause) -> Halt
 {
     match cause {
         Cause::Gate => Halt { gate: true, ..halt },
-        Cause::Memory => Halt {
+        Cause::Memory(_) => Halt {
             memory: true,
             ..halt
         },

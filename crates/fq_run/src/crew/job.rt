@@ -7,7 +7,8 @@ use fq_work::{Reply, Worked};
 use std::snapshot::Snapshot;
 use std::thread::Promise;
 
-/// What a worker is started with: the steps, whether blocks are tallied, and its two lanes.
+/// What a worker is started with: the steps, whether blocks are tallied, its two lanes, whether its
+/// gate may hold back a block, and how often it asks the gate about one.
 /// `kept_by` says, in terms of these, what joining the worker returns.
 #[derive(Drop)]
 pub(crate) struct Job {
@@ -15,10 +16,16 @@ pub(crate) struct Job {
     pub(crate) tallied: bool,
     pub(crate) rx: Snapshot<Rx<Block>>,
     pub(crate) tx: Snapshot<Tx<Reply>>,
+    pub(crate) holds: bool,
+    pub(crate) gate_turns: u64,
 }
 
 impl Promise<Worked> for Job {
-    ghost use Rattle.fq_work.specs.Work.{IsWork};
+    ghost use Rattle.std.specs.Prelude.{◌≡◌, Some};
+    ghost use Rattle.fq_work.specs.Work.{IsWork, MayShut};
+    ghost use Rattle.fq_work.specs.declared.reply.Cause.TheVariants.{Gate};
 
-    ghost kept_by = { λ job worked. IsWork job.tallied job.steps job.rx.value job.tx.value worked };
+    ghost kept_by = { λ job worked.
+        IsWork job.tallied job.steps job.rx.value job.tx.value worked
+        × (worked.cause ≡ Some Gate → MayShut job.holds job.gate_turns) };
 }

@@ -1,6 +1,7 @@
 //! Starts the workers, and waits for them.
 
 ghost use Rattle.std.specs.Prelude.{◌≡◌, ◌≤◌, [], IfSome, IfOk, IfErr, vec_len, vec_capacity};
+ghost use Rattle.std.specs.Arc.{arc_value};
 ghost use Rattle.std.specs.List.{AllZip};
 ghost use Rattle.fq_run.specs.crew.Workers.{Seated, Joined};
 
@@ -25,7 +26,8 @@ pub(crate) fn start_workers<R: Threads + Wait + Copy + Send + 'static, H: Gate +
 ) -> Result<Vec<PromisedHandle<Worked, Job>>, Vec<PromisedHandle<Worked, Job>>>
     requires { (hands.items ≡ []) × (vec_len seats ≤ vec_capacity hands) }
     ensures all { IfOk result (λ hands.
-        AllZip (Seated settings.now.tallied settings.now.steps) seats.items hands.items) }
+        AllZip (Seated settings.now.tallied settings.now.steps (H.holds (arc_value gate.now)))
+        seats.items hands.items) }
     ensures few { (IfOk result (λ hands. vec_len hands ≤ vec_len seats))
         × (IfErr result (λ started. vec_len started ≤ vec_len seats)) }
 {
@@ -50,13 +52,16 @@ fn start_worker<R: Threads + Wait + Copy + Send + 'static, H: Gate + 'static>(
     gate: Arc<H>,
     ends: WorkEnds,
 ) -> Option<PromisedHandle<Worked, Job>>
-    ensures { IfSome result (Seated settings.now.tallied settings.now.steps ends) }
+    ensures { IfSome result (Seated settings.now.tallied settings.now.steps
+        (H.holds (arc_value gate)) ends) }
 {
     let job = Job {
         steps: *settings.steps(),
         tallied: settings.tallied(),
         rx: Snapshot::of(&ends.rx),
         tx: Snapshot::of(&ends.tx),
+        holds: (*gate).may_hold(),
+        gate_turns: settings.gate_turns(),
     };
     let own = *rt;
     let steps = *settings.steps();

@@ -17,6 +17,7 @@ returns-in-Ok-clause-pairs g c =
     let run : IsRun a (g.T.Files.state c.args.files.now) (g.T.Files.state c.trim_files.new.files)
     account.outcome account.counts reported =
     record {
+      no_gate = c.in-Ok.ensures.no_gate;
       trims = c.in-Ok.ensures.completed.trims;
       ended = c.in-Ok.ensures.completed.ended;
       due = c.in-Ok.ensures.completed.due;
@@ -25,7 +26,7 @@ returns-in-Ok-clause-pairs g c =
     } in
     let line : c.tell.result ≢ 0 → TookLine a _ _ _ _ c.tell.result =
     λ some. told_line a _ _ account.outcome account.counts reported run
-    c.in-Ok.completed.seen _ _ _
+    c.in-Ok.completed.seen c.in-Ok.ensures.completed.said _ _ _
     (c.tell.ensures.line some) in
     let whole : (c.tell.result ≡ 0) ⊎ (c.tell.result ≡ 3) →
     IsTrue (g.T.Files.state c.args.files.now).tells → EndsWhole a _ _ _ _ c.tell.result =
@@ -37,6 +38,7 @@ returns-in-Ok-clause-pairs g c =
       seen = c.in-Ok.completed.seen;
       trims = c.in-Ok.ensures.completed.trims told
           (ends_so account.outcome c.tell.result status ends);
+      said = c.in-Ok.ensures.completed.said told;
       status_is = status;
       printed = c.tell.ensures.printed ends;
       told = c.tell.ensures.told ends;

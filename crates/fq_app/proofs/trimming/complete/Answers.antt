@@ -1,7 +1,10 @@
-use Rattle.std.proofs.Common.{◌∙◌, ℕ, IsTrue, IsSome, Option, List, refl, sym, ap, subst}
+use Rattle.std.proofs.Common.{◌≡◌, ◌∙◌, ℕ, IsTrue, IsSome, Option, List, refl, sym, ap, subst}
 use Rattle.fq_pair.specs.declared.side.Side.TheVariants.{Forward, Reverse}
 use Rattle.fq_run.specs.Devices.{outlet_states}
-use Rattle.fq_run.specs.Endings.{AreTold}
+use Rattle.fq_pair.specs.declared.fault.InputFault.TheVariants.{Text}
+use Rattle.fq_run.specs.Outcome.{Outcome}
+use Rattle.fq_run.specs.Outcome.TheVariants.{Input}
+use Rattle.fq_run.specs.Endings.{AreTold, ends_whole}
 use Rattle.fq_cli.specs.Requests.{asking_of}
 use Rattle.fq_files_run.specs.Trimming.{opened_of, left_of, run_in}
 use Rattle.fq_files.specs.States.{FilesState}
@@ -10,6 +13,8 @@ use Rattle.fq_files_run.proofs.StoreLemmas.{all_hold}
 use Rattle.fq_files_run.proofs.EndingLemmas.{ends_so}
 use Rattle.fq_files_run.proofs.FailureLemmas.{as_it_is, fails_as_told, feed_sound, not_lane, outlets_flushed, outlets_sound}
 use Rattle.fq_files_run.proofs.CompletingLemmas.{IsHeld, first_pairs, report_of_run, sides_in, trims_files}
+use Rattle.fq_files_run.proofs.OpeningLemmas.{inputs_kept}
+use Rattle.fq_files_run.proofs.SaidLemmas.{is_said}
 use Rattle.fq_app.proofs.trimming.complete.Goals as goal
 
 -- the file of each output exists when the outlets are handed back
@@ -25,6 +30,7 @@ store-errors-requires-after_bounds g c κs within = λ told out name named.
 pub returns : goal.returns
 returns g c = record {
   witnessed = c.run-account.ensures.witnessed;
+  no_gate = c.run-account.ensures.no_gate;
   kept =
       let files = g.T.Files.state in
       let started = files c.args.files.now in
@@ -32,10 +38,11 @@ returns g c = record {
       let stored = files c.store-errors.new.files in
       then_store started fed _ (store_fail started fed c.inputs_done-inputs.ensures.kept)
       (then_store fed stored _ c.store-errors.ensures.kept c.store_report-reported.ensures.kept);
-  completed = λ start since opened settings.
+  completed = λ start since opened settings right.
       let a = asking_of c.args.request.now in
       let choices = c.args.settings.now in
       let files = g.T.Files.state in
+      let started = files c.args.files.now in
       let state = g.T.Target.Outlet.state in
       let inputs = opened_of g.T.In.Feed.state c.args.devices.feeds in
       let before = outlet_states state c.args.devices.outlets in
@@ -98,6 +105,24 @@ returns g c = record {
         as_it_is =
             λ told. as_it_is choices run (λ whole. c.run-account.ensures.whole whole
             (are_told told));
+        said = λ told.
+            let told_0 = told_as _ _ since told in
+            let is = as_it_is choices run (λ whole. c.run-account.ensures.whole whole
+            (are_told told)) in
+            is_said a.inputs start.bytes started.bytes account.outcome left
+            c.inputs_done-inputs.result c.store-errors.result c.run-account.result.unmatched _
+            c.seen_of.ensures c.run-account.ensures.returned
+            (inputs_kept a start.bytes started.bytes right (opened.rest told))
+            (done.looks told_0) done.why
+            (λ side fault at.
+            let outcome_is : account.outcome ≡ Input (Text side fault) = sym is ∙ at in
+            let whole : IsTrue (ends_whole account.outcome) =
+            subst (λ (o : Outcome). IsTrue (ends_whole o)) (sym outcome_is) refl in
+            let every = c.run-account.ensures.every (not_lane account.outcome whole) in (
+              feed_sound choices run every whole Forward,
+              feed_sound choices run every whole
+                  Reverse,
+            ));
         report_failed = reported.failed;
         sound = λ whole written.
             let every = c.run-account.ensures.every (not_lane account.outcome whole) in

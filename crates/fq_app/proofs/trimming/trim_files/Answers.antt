@@ -37,4 +37,4 @@ pub returns-clause-rest : goal.returns-clause-rest
 returns-clause-rest g c =
     let devices = c.in_ok-devices.ensures in
     (c.complete.ensures.completed _ devices.sound devices.opened
-    c.in_ok-settings.ensures.settings).rest
+    c.in_ok-settings.ensures.settings c.in_ok-settings.ensures.right).rest

@@ -2,6 +2,7 @@
 use Rattle.std.proofs.Common.{Bool, is_some, Option, ◌≡◌, ◌∙◌, ◌<◌, [], ◌∷◌, length, vec_len, length-append, sym, ap, subst, arith}
 use Rattle.fq_pair.specs.declared.out.Out.{Out}
 use Rattle.fq_tally.proofs.ResultLemmas.{is_asked}
+use Rattle.fq_run_core.specs.declared.halt.Halt.{Halt}
 use Rattle.fq_run_core.specs.declared.total.Total.{Total}
 use Rattle.fq_run_core.specs.Totals.{no_total}
 use Rattle.fq_run.specs.collector.Collecting.{Collects}
@@ -10,7 +11,7 @@ use Rattle.fq_run.specs.Each.{Each3}
 use Rattle.fq_run.specs.lanes.Items.{names_of}
 use Rattle.fq_run_core.specs.Writing.{FlushesAfter}
 use Rattle.fq_run_core.proofs.OutletLemmas.{still_healthy}
-use Rattle.fq_run.proofs.crew.WorkerLemmas.{Answered, all_answered, replies_dealt, laid_length, can_confirm, matched}
+use Rattle.fq_run.proofs.crew.WorkerLemmas.{Answered, all_answered, replies_dealt, laid_length, can_confirm, matched, shut}
 use Rattle.fq_run.proofs.AttendLemmas.{threaded}
 use Rattle.fq_run.proofs.threads.attend.Goals as goal
 
@@ -41,15 +42,18 @@ conclude-requires-clause-workers g c =
     let m = c.requires.manned in
     let steps = c.args.crew.dealer.promise.settings.steps in
     let tallied = c.args.crew.dealer.promise.settings.tallied in
+    let holds = c.args.crew.holds in
     let to = c.args.crew.dealer.promise.to.value.items in
     let d = c.join-dealt.ensures.deals in
     let k = c.collect-collector.result in
     let ws = c.join_workers-worked.result.items in
-    let a = all_answered tallied steps to m.ends c.args.replies.items _ ws m.laid m.seated
+    let a = all_answered tallied steps holds to m.ends c.args.replies.items _ ws m.laid m.seated
     c.join_workers-worked.ensures in
-    can_confirm tallied steps d.sent c.join-dealt.result.closings.items ws k.replies.items d.ends
-    (subst (λ ns. Each3 (Answered tallied steps) ns (names_of k.replies.items) ws) (sym d.out.names)
-    (subst (λ ns. Each3 (Answered tallied steps) (names_of to) ns ws)
+    can_confirm tallied steps holds d.sent c.join-dealt.result.closings.items ws k.replies.items
+    d.ends
+    (subst (λ ns. Each3 (Answered tallied steps holds) ns (names_of k.replies.items) ws)
+    (sym d.out.names)
+    (subst (λ ns. Each3 (Answered tallied steps holds) (names_of to) ns ws)
     (sym c.collect-collector.ensures.names) a))
     c.collect-collector.ensures.over.1
 
@@ -60,10 +64,11 @@ returns g c =
     let crew = c.args.crew in
     let steps = crew.dealer.promise.settings.steps in
     let tallied = crew.dealer.promise.settings.tallied in
+    let holds = crew.holds in
     let to = crew.dealer.promise.to.value.items in
     let k = c.collect-collector.result in
     let ws = c.join_workers-worked.result.items in
-    let a = all_answered tallied steps to m.ends c.args.replies.items _ ws m.laid m.seated
+    let a = all_answered tallied steps holds to m.ends c.args.replies.items _ ws m.laid m.seated
     c.join_workers-worked.ensures in
     let o = g.O.Outlet in
     let len : length to ≡ vec_len c.args.replies = laid_length to m.ends c.args.replies.items m.laid
@@ -85,8 +90,10 @@ returns g c =
     c.close-started.result c.put.new.self _ c.join-dealt.result ws k _ c.conclude.result to
     (vec_len c.args.replies)
     c.conclude.ensures c.join-dealt.ensures put c.close-started.ensures
-    (matched tallied steps _ _ _ ws k.replies.items a) len
+    (matched tallied steps holds _ _ _ ws k.replies.items a) len
     (omega (arith, c.args.replies.ok.0, m.some))
     (subst collected (asked_by _ _ c.requires.total) c.collect-collector.ensures.collects)
     c.collect-collector.ensures.over.0
-    (subst flushed c.failed.ensures c.flush_after-failed.ensures)
+    (subst flushed c.failed.ensures c.flush_after-failed.ensures) holds
+    (λ confirmed gated. shut tallied steps holds _ _ _ ws k.replies.items a confirmed
+    (sym (ap (λ (h : Halt). h.gate) c.collect-collector.ensures.hears) ∙ gated))

@@ -1,5 +1,6 @@
 -- If a thread was refused, nothing was written.
 use Rattle.std.proofs.Common.{refl, sym, ap, subst, arith}
+use Rattle.std.specs.Arc.{arc_value}
 use Rattle.fq_run_core.specs.declared.total.Total.{Total}
 use Rattle.fq_run_core.specs.Devices.{outlet_states}
 use Rattle.fq_run_core.specs.PairsRead.{feed_in}
@@ -20,7 +21,8 @@ returns-in_default g c =
     let s = g.S.PairReader in let o = g.O.Outlet in
     let states = outlet_states o.state in
     let P : Conclusion g.row.S.Denot → Type 0 =
-    λ e. IsThreaded c.args.settings.now (run_from s.state (s.state c.args.dealer.source) (states
+    λ e. IsThreaded c.args.settings.now (g.H.Gate.holds (arc_value c.args.gate.now))
+    (run_from s.state (s.state c.args.dealer.source) (states
     c.args.outlets.now) (states c.args.outlets.now) e) e.unended e.refused in
     subst P (sym c.unstarted.ensures) (unstarted _ _ refl (ap (λ (t : Total). t.counts)
     c.requires.total) (ap (λ (t : Total). t.tally) c.requires.total) (record {
@@ -28,7 +30,7 @@ returns-in_default g c =
           refl;
       forward = tt;
       reverse = tt;
-    }) (λ gone. refl, λ gone. refl))
+    }) (λ gone. refl, λ gone. refl) _)
 
 -- if a worker is refused, nothing is written, and feeds that are handed back are as they were
 pub returns-in-Err : goal.returns-in-Err
@@ -36,7 +38,8 @@ returns-in-Err g c =
     let s = g.S.PairReader in let o = g.O.Outlet in
     let states = outlet_states o.state in
     let P : Conclusion g.row.S.Denot → Type 0 =
-    λ e. IsThreaded c.args.settings.now (run_from s.state (s.state c.args.dealer.source) (states
+    λ e. IsThreaded c.args.settings.now (g.H.Gate.holds (arc_value c.args.gate.now))
+    (run_from s.state (s.state c.args.dealer.source) (states
     c.args.outlets.now) (states c.args.outlets.now) e) e.unended e.refused in
     let left = c.into_unread-source.result in
     let back = unread s.state (s.state c.args.dealer.source) left
@@ -50,4 +53,4 @@ returns-in-Err g c =
           back.0;
       reverse = back.1;
     }) (of_one (λ x. feed_in (s.state x).forward) (λ x. feed_in
-    (s.state x).reverse) left))
+    (s.state x).reverse) left) _)

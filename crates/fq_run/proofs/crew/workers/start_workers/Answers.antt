@@ -1,5 +1,6 @@
 -- One more worker is started.
-use Rattle.std.proofs.Common.{◌∙◌}
+use Rattle.std.proofs.Common.{◌∙◌, Bool, ap, subst}
+use Rattle.std.specs.Arc.{arc_value}
 use Rattle.fq_run.specs.crew.Workers.{Seated}
 use Rattle.fq_run.proofs.EachLemmas.{one_counted, zip_pushed}
 use Rattle.fq_run.proofs.crew.workers.start_workers.Goals as goal
@@ -10,6 +11,12 @@ loop-ends-preserved g c = record {
   room = c.push_reserved.ensures.capacity ∙ c.loop-ends.invariant.room;
   count = one_counted c.loop-ends.yielded c.in-Some.ends c.push_reserved.ensures.len
       c.loop-ends.invariant.count;
-  seated = zip_pushed (Seated c.args.settings.now.tallied c.args.settings.now.steps) _ _ _ _ _
-      c.loop-ends.invariant.seated c.in-Some-start_worker.ensures c.push_reserved.ensures.items;
+  seated = zip_pushed (Seated c.args.settings.now.tallied c.args.settings.now.steps
+      (g.H.Gate.holds (arc_value c.args.gate.now))) _ _ _ _ _
+      c.loop-ends.invariant.seated
+      (let P : Bool → Type 0 = λ holds. Seated c.args.settings.now.tallied
+      c.args.settings.now.steps holds c.in-Some.ends
+      c.in-Some-start_worker.hand in
+      subst P (ap g.H.Gate.holds c.in-Ok.ensures) c.in-Some-start_worker.ensures)
+      c.push_reserved.ensures.items;
 }
