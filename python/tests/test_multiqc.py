@@ -23,6 +23,13 @@ def test_a_row(more, wanted):
     assert counts.table_row(report(**more)) == {**WITHOUT, **wanted}
 
 
+@pytest.mark.parametrize("lines, are_pictures, wanted", (
+    (0, True, False), (0, False, False), (15, True, True), (16, True, False), (192, False, True),
+))
+def test_lines_that_have_a_name(lines, are_pictures, wanted):
+    assert counts.are_named(lines, are_pictures) == wanted
+
+
 @pytest.mark.parametrize("reports, raw", (
     ([{"adapters": None}, {}], [None, None]),
     ([{"adapters": None}, {"adapters": adapters(10, 50)}, {}], [0.02, 0.0201, None]),

@@ -22,7 +22,7 @@ PYTHON = HERE.parent.parent / "python"  # which has the module that MultiQC load
 sys.dont_write_bytecode = True
 sys.path.insert(0, str(PYTHON))
 
-from tibzharuk.report.overview import last_line  # noqa: E402
+from tibzharuk.report.overview import last_line, overview  # noqa: E402
 from tibzharuk.report.reading import Refused, read_report  # noqa: E402
 from tibzharuk.report.settings import how_trimmed  # noqa: E402
 
@@ -123,8 +123,8 @@ def warned(results, warnings):
     return parts + ["</ul></div>"]
 
 
-def sample_pages(results, reports):
-    """The samples that kept less than half of their pairs, and the links to the pages of all."""
+def below_half(results, reports):
+    """The samples that kept less than half of their pairs."""
     parts = []
     few = few_kept(reports)
     if few:
@@ -132,8 +132,6 @@ def sample_pages(results, reports):
         for sample, (pairs, kept) in few.items():
             parts.append(f"<li><strong>{link(results, sample)}</strong>: {kept:,} of {pairs:,} pairs</li>")
         parts.append("</ul></div>")
-    if reports:
-        parts.append(f"<p>Pages of the samples: {', '.join(link(results, sample) for sample in reports)}.</p>")
     return parts
 
 
@@ -215,15 +213,17 @@ def run_multiqc(room, top):
 def make_page(results, trimmed, warnings, failed, not_started):
     """Makes the page in a directory of its own, and moves it to its place at the end."""
     samples = len(trimmed) + len(failed) + len(not_started)
-    parts = [SECTION, f"<p><strong>{len(trimmed)} of {samples} samples</strong> are on this page.</p>"]
+    said = [SECTION, f"<p><strong>{len(trimmed)} of {samples} samples</strong> are on this page.</p>"]
+    said += how_trimmed(settings_of(results, trimmed))
     results.mkdir(parents=True, exist_ok=True)
     with tempfile.TemporaryDirectory(prefix=".report.", dir=results) as name:
         room = Path(name)
         (room / "read").mkdir()
         reports = gather(results, trimmed, room / "read")
-        parts += warned(results, warnings) + sample_pages(results, reports) + how_trimmed(settings_of(results, trimmed))
-        (room / "read" / "run_mqc.html").write_text("\n".join(parts) + "\n", encoding="utf-8")
-        run_multiqc(room, "\n".join(missing_samples(failed, not_started)))
+        (room / "read" / "run_mqc.html").write_text("\n".join(said) + "\n", encoding="utf-8")
+        top = missing_samples(failed, not_started) + warned(results, warnings) + below_half(results, reports)
+        top += overview(reports, lambda sample: link(results, sample))
+        run_multiqc(room, "\n".join(top))
         shutil.rmtree(results / "report_data", ignore_errors=True)
         for name in ("report_data", "report.html"):
             (room / "written" / name).replace(results / name)

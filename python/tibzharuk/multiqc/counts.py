@@ -2,11 +2,19 @@
 
 from typing import Any, Dict, Iterable, List, Mapping, Optional, Tuple
 
+from ..report.outliers import share_with_adapter
 from ..report.reading import LAST, PAIRS, ROWS, SIDES, Reads, Report, both
+from ..report.sections import raw_bases
 
 Line = Dict[Any, float]  # y by x
 MOST_POINTS = 500
+MOST_NAMED = 15  # lines that MultiQC names in a picture
 NO_READS = {1: 0.0, 2: 0.0}  # since a line must have two points
+
+
+def are_named(lines: int, are_pictures: bool) -> bool:
+    """Whether a graph of so many lines says which is whose: others have names under the mouse."""
+    return 0 < lines <= (MOST_NAMED if are_pictures else lines)
 
 
 def before(report: Report) -> List[Reads]:
@@ -29,16 +37,10 @@ def adapter_columns(report: Report) -> Dict[str, Optional[float]]:
     it looked at. Nothing if the report, as one of fq_prog, doesn't know of cutadapt."""
     if "adapters" not in report:
         return {}
-    bases = sum(reads["bases"] for reads in before(report))
-    adapters = report["adapters"]
-    if not adapters:
-        return {"megabases_raw": bases / 1_000_000}
-    removed = sum(adapters[side]["bases_removed"] for side in SIDES)
-    counts = [adapters[side]["pairs_with_adapter"] for side in SIDES]
-    found = [count for count in counts if count is not None]
+    found = share_with_adapter(report)
     return {
-        "megabases_raw": (bases + removed) / 1_000_000,
-        "percent_with_adapter": percent(sum(found), len(found) * adapters["pairs_read"]),
+        "megabases_raw": raw_bases(report) / 1_000_000,
+        "percent_with_adapter": None if found is None else round(found, 4),
     }
 
 

@@ -196,6 +196,10 @@ class MultiqcModule(BaseMultiqcModule):
                 }
             ),
         )
+        self.write_graph(graph, rows)
+
+    def write_graph(self, graph: str, rows: Rows) -> None:
+        """A file with the numbers of a graph."""
         # Without the order, a table has the columns of its first row first.
         columns = list({column: 0 for row in rows.values() for column in row})
         if all(isinstance(column, (int, float)) for column in columns):
@@ -238,12 +242,15 @@ class MultiqcModule(BaseMultiqcModule):
         )
 
     def add_line_graph(self, graph: str, title: str, said: str, rows: Rows, kind: str) -> None:
-        """A line graph, unless no report has its counts."""
-        if rows:
+        """A line graph, unless no report has its counts. If nobody could tell which line is whose,
+        only its numbers are written."""
+        if counts.are_named(len(rows), config.plots_force_flat):
             labels = dict(LABELS[kind], ymin=0)
             self.add_graph(
                 graph, title, said, rows, lambda names: linegraph.plot(rows, dict(names, **labels))
             )
+        elif rows:
+            self.write_graph(graph, rows)
 
     def add_lines(self, kind: str, when: str) -> None:
         """A line graph of all reads before trimming, or of those that survive after it."""

@@ -10,5 +10,6 @@
     page        the whole page
     style.css   how it looks
     settings    how the workflow trimmed a sample
+    outliers    which samples lie outside the others
     overview    what the workflow says of all samples
 """
