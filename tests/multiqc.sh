@@ -65,12 +65,9 @@ sed '/<table/,$d' page.html > above
 grep -q "<strong>cut</strong>: <samp>$(cat fault)</samp>" above || fail 'it is not named above the tables'
 grep -q 'Stopped at a fault of the inputs: 1' above || fail 'others are named too'
 
-row='a run over the first pairs'
-mkdir first
-sed 's/"fault":null,/&"first_pairs":500,/' lab/plain.json > first/first.json
-page first
-shows first/first.json
-sed '/<table/,$d' page.html | grep -q 'Only the first pairs were trimmed: 1.*<strong>first</strong>: <samp>--pairs 500</samp>' || fail 'it is not named above the tables'
+row='warnings'
+grep -q '<strong>plain</strong>: <samp>s1_L001_R1.fq.gz may be cut: the end block of BGZF is missing</samp>' above || fail 'that of a report is not named above the tables'
+grep -q 'Warnings: 2' above || fail 'others are named too'
 
 row='files that are not reports'
 mkdir bad

@@ -25,6 +25,19 @@ def test_last_line(trimmed, failed, not_started, wanted):
     assert overview.last_line(trimmed, failed, not_started) == wanted
 
 
+LOG = "tibzharuk: warning: a\nother\ntibzharuk: warning: b: c\n"
+
+
+@pytest.mark.parametrize("more, log, wanted", (
+    ({}, LOG, ["a", "b: c"]),
+    ({}, "", []),
+    ({"warnings": []}, LOG, []),
+    ({"warnings": ["x", "y"]}, LOG, ["x", "y"]),
+))
+def test_warnings(more, log, wanted):
+    assert overview.warnings_of(report(**more), log) == wanted
+
+
 def run(**bad):
     """Reports of eight samples that are nearly alike, and of one more."""
     kept = (98, 97, 99, 98, 98, 97, 98, 99)

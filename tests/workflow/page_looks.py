@@ -24,7 +24,7 @@ def main(page, names, bad):
     table = below.split("</table>")[0]
     shown = re.findall(r'<th class="rowheader"[^>]*>(.*?)</th>', table)
     assert sorted(shown[1:]) == sorted(samples), shown
-    assert "mqc-table-collapse" not in content.split("<body")[1].split("general_stats_table")[0]
+    assert "mqc-table-responsive mqc-table-collapse" not in content, "a part of the table is hidden"
     assert "tibzharuk_scores_before" not in re.findall(r'id="([^"]*)"', content)
 
 

@@ -22,11 +22,10 @@ PYTHON = HERE.parent.parent / "python"  # which has the module that MultiQC load
 sys.dont_write_bytecode = True
 sys.path.insert(0, str(PYTHON))
 
-from tibzharuk.report.overview import last_line, overview  # noqa: E402
+from tibzharuk.report.overview import last_line, overview, warnings_of  # noqa: E402
 from tibzharuk.report.reading import Refused, read_report  # noqa: E402
 from tibzharuk.report.settings import how_trimmed  # noqa: E402
 
-WARNING = "tibzharuk: warning: "
 SECTION = """<!--
 id: 'tibzharuk_run'
 section_name: 'This run'
@@ -73,16 +72,28 @@ def why_failed(results, logs, sample, lanes):
     return None if reasons == [None] else "; ".join(reasons)
 
 
-def warnings_of(logs, sample, lanes):
-    """What tibzharuk trim warned of when it trimmed a sample, with the names of the lanes if each had a job."""
-    named = {f"lane {lane}: ": logs / "trim" / sample / f"{sample}_{lane}.log" for lane in lanes}
-    found = []
-    for name, log in (named or {"": logs / "trim" / f"{sample}.log"}).items():
-        try:
-            lines = log.read_text(encoding="utf-8", errors="replace").splitlines()
-        except OSError:
-            continue
-        found += [name + line[len(WARNING) :] for line in lines if line.startswith(WARNING)]
+def files_of(sample, lanes):
+    """The reports and the logs of the jobs that trimmed a sample, below the results and the logs, by what names the job."""
+    if not lanes:
+        return {"": (f"reports/{sample}.json", f"trim/{sample}.log")}
+    return {f"lane {lane}: ": (f"lanes/{sample}/{sample}_{lane}.json", f"trim/{sample}/{sample}_{lane}.log") for lane in lanes}
+
+
+def text_of(path):
+    """What a file holds; nothing if it can't be read."""
+    try:
+        return path.read_text(encoding="utf-8", errors="replace")
+    except OSError:
+        return ""
+
+
+def all_warnings(results, logs, trimmed):
+    """What tibzharuk trim warned of, by the samples, with the names of the lanes if each had a job."""
+    found = {}
+    for sample, lanes in trimmed.items():
+        for job, (report, log) in files_of(sample, lanes).items():
+            for line in warnings_of(read_report(str(results / report)), text_of(logs / log)):
+                found.setdefault(sample, []).append(f"{job}{line}")
     return found
 
 
@@ -200,7 +211,8 @@ def plugin(room):
 def run_multiqc(room, top):
     """Has MultiQC make the page of what is in `room`/read in `room`/written, with this text above its tables."""
     config = room / "top.json"  # JSON is YAML, too
-    config.write_text(json.dumps({"report_comment": top}), encoding="utf-8")
+    # The plugin would name the samples with warnings too.
+    config.write_text(json.dumps({"report_comment": top, "tibzharuk_warnings": False}), encoding="utf-8")
     paths = [str(plugin(room)), str(PYTHON), os.environ.get("PYTHONPATH", "")]
     environment = dict(os.environ, PYTHONPATH=os.pathsep.join(filter(None, paths)), PYTHONDONTWRITEBYTECODE="1")
     settings = ["--config", str(HERE.parent / "multiqc.yaml"), "--config", str(config)]
@@ -238,12 +250,11 @@ def main():
     parts = ("summaries/{}.summary", "summaries/{}.settings", "reports/{}.json")
     files = {name: [part.format(name) for part in parts] + [f"lanes/{name}/{name}_{lane}.json" for lane in lanes] for name, lanes in samples.items()}
     trimmed = {name: lanes for name, lanes in samples.items() if all((words.results / file).is_file() for file in files[name])}
-    found = {name: warnings_of(words.logs, name, lanes) for name, lanes in trimmed.items()}
-    warnings = {name: lines for name, lines in found.items() if lines}
     reasons = {name: why_failed(words.results, words.logs, name, lanes) for name, lanes in samples.items() if name not in trimmed}
     failed = {name: why for name, why in reasons.items() if why is not None}
     not_started = [name for name, why in reasons.items() if why is None]
     try:
+        warnings = all_warnings(words.results, words.logs, trimmed)
         make_page(words.results, trimmed, warnings, failed, not_started)
     except (Refused, OSError) as why:
         print(f"page: {' '.join(str(why).split())}", file=sys.stderr)

@@ -4,7 +4,7 @@ import logging
 import os
 from collections import OrderedDict  # MultiQC sorts the names of other dictionaries
 from html import escape
-from typing import Any, Callable, Dict, Mapping, Tuple
+from typing import Any, Callable, Dict, Mapping, Sequence, Tuple
 
 from multiqc.modules.base_module import BaseMultiqcModule
 from multiqc.plots import bargraph, linegraph
@@ -105,6 +105,21 @@ LINES = {
 Rows = Mapping[str, Mapping[Any, float]]  # by sample, y by x
 
 
+def above_tables(kind: str, title: str, lines: Mapping[str, Sequence[str]]) -> None:
+    """Puts the samples that have lines above the tables, with a title that counts them."""
+    some = {name: each for name, each in lines.items() if each}
+    if not some:
+        return
+    samples = "".join(
+        f"<li><strong>{escape(name)}</strong>: <samp>{escape(plain(line))}</samp></li>"
+        for name, each in some.items() for line in each
+    )
+    config.report_comment = (
+        f"{getattr(config, 'report_comment', None) or ''}"
+        f'<div class="alert {kind}"><strong>{title.format(len(some))}<ul>{samples}</ul></div>'
+    )
+
+
 class MultiqcModule(BaseMultiqcModule):
     """The reports, by sample."""
 
@@ -116,10 +131,9 @@ class MultiqcModule(BaseMultiqcModule):
         if not self.reports and not self.stopped:
             raise UserWarning
         log.info("Found %d reports", len(self.reports))
-        self.name_above("danger", "Stopped at a fault of the inputs", "are left out", self.stopped)
-        parts = {name: f"--pairs {report['first_pairs']}"
-                 for name, report in self.reports.items() if "first_pairs" in report}
-        self.name_above("warning", "Only the first pairs were trimmed", "may have more", parts)
+        self.name_stopped()
+        if getattr(config, "tibzharuk_warnings", True):
+            self.name_warned()
         if self.reports:
             self.add_table()
             self.add_bars()
@@ -154,20 +168,16 @@ class MultiqcModule(BaseMultiqcModule):
                 stopped[name] = report["fault"] or report["outcome"]
         return whole, stopped
 
-    @staticmethod
-    def name_above(kind: str, title: str, said: str, whys: Dict[str, str]) -> None:
-        """Names samples above the tables, of which only a part was counted, and why."""
-        if not whys:
-            return
-        samples = "".join(
-            f"<li><strong>{escape(name)}</strong>: <samp>{escape(plain(why))}</samp></li>"
-            for name, why in whys.items()
-        )
-        config.report_comment = (
-            f"{getattr(config, 'report_comment', None) or ''}"
-            f'<div class="alert alert-{kind}"><strong>{title}: {len(whys)}.</strong> '
-            f"These samples {said}:<ul>{samples}</ul></div>"
-        )
+    def name_stopped(self) -> None:
+        """Names the samples whose run stopped at a fault, above the tables: what was counted of
+        them is only a part."""
+        title = "Stopped at a fault of the inputs: {}.</strong> These samples are left out:"
+        above_tables("alert-danger", title, {name: [why] for name, why in self.stopped.items()})
+
+    def name_warned(self) -> None:
+        """Names the samples whose runs warned, above the tables."""
+        told = {name: report.get("warnings", []) for name, report in self.reports.items()}
+        above_tables("alert-warning", "Warnings: {}.</strong>", told)
 
     def add_table(self) -> None:
         """The columns of the general statistics for which a report has a number."""

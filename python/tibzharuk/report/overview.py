@@ -10,6 +10,7 @@ from .reading import LAST, SIDES, Reads, Report
 
 from .texts import mean, share, shown
 
+WARNING = "tibzharuk: warning: "
 MOST_NAMES, MOST_REASONS = 20, 3
 WIDE, HIGH, MOST_POINTS = 240, 72, 40
 HIGHEST_SCORE = 42
@@ -57,6 +58,15 @@ def last_line(trimmed: int, failed: Mapping[str, str], not_started: Sequence[str
     if not_started:
         said.append(f"not started: {listed(not_started)}")
     return "; ".join(said)
+
+
+def warnings_of(report: Report, log: str) -> List[str]:
+    """What the run warned of, by its report, or by its log if the report, as that of an earlier
+    version, has no such field."""
+    if "warnings" in report:
+        return list(report["warnings"])
+    lines = log.splitlines()
+    return [line[len(WARNING):] for line in lines if line.startswith(WARNING)]
 
 
 # Small drawings. All samples have the same axes.
