@@ -38,7 +38,7 @@ _tibzharuk_known() {
       ;;
   esac
   case $previous in
-    --adapters) choices='truseq nextera smallrna' ;;
+    --adapters) choices='auto truseq nextera smallrna' ;;
     --compressor) choices='bgzip pigz gzip igzip' ;;
     --decompressor) choices='bgzip gzip' ;;
     --encoding) choices='sanger illumina13 solexa' ;;

@@ -13,7 +13,7 @@ work=$(mktemp -d)
 trap 'rm -rf "$work"' EXIT
 share=${1:-$work/share}
 encodings='illumina13 sanger solexa'
-adapters='nextera smallrna truseq'
+adapters='auto nextera smallrna truseq'
 files='one.fq two.fq'
 
 # The steps that the help names. One that takes a number is offered with its colon.
@@ -42,7 +42,7 @@ options_of_command() {
 options_of_pe() {
   {
     "$tree/python/tibzharuk/__main__.py" PE --help | sed -n '/^SYNOPSIS/,/^$/p' | grep -oE -- '-[a-zA-Z0-9]+( [A-Z]+)?'
-    options_of_command trim | grep '^--' | grep -vE -- '^--(paired1|unpaired1|paired2|unpaired2|no-unpaired|interleaved|through) ?'
+    options_of_command trim | grep '^--' | grep -vE -- '^--(paired1|unpaired1|paired2|unpaired2|no-unpaired|interleaved|through|expect-pairs) ?'
   } | awk '!seen[$1]++ { print $1, $2 }'
 }
 

@@ -50,6 +50,7 @@ check_links() {
 installed_files() {
   local name
   (cd python && find tibzharuk -name __pycache__ -prune -o -type f -printf "$1/%p\n")
+  { git ls-files -- workflow config profiles 2> /dev/null || find workflow config profiles -type f; } | sed "s|^|${1%python}|"
   printf '%s\n' bin/fq_prog bin/tibzharuk "$1/tibzharuk/kit" "lib/python3/dist-packages/tibzharuk"
   printf "lib/python3/dist-packages/tibzharuk-$version.dist-info/%s\n" METADATA entry_points.txt
   printf 'share/man/man1/%s.1\n' fq_prog tibzharuk "${commands[@]/#/tibzharuk-}"
@@ -119,7 +120,7 @@ check_tarball() {
   tar -C "$work/empty" -xzf "$tarball" || fail 'the tarball is not unpacked'
   [ "$(ls "$work/empty")" = "${release##*/}" ] || fail "the tarball has another directory: $(ls "$work/empty")"
   for file in README.md CHANGELOG.md CONTRIBUTING.md SECURITY.md CITATION.cff NOTICES.md LICENSE-MIT LICENSE-APACHE \
-    workflow/Snakefile workflow/cwl/*.cwl config/config.yaml profiles/{local,slurm,slurm-v8}/config.yaml $(installed_files python); do
+    $(installed_files python); do
     [ -s "$release/$file" ] || fail "the tarball lacks $file"
   done
   check_compiled "$release/python"
@@ -188,7 +189,7 @@ check_package() {
   check_links "$root"
   for file in $(installed_files share/tibzharuk/python | sed 's|\(share/man/.*\)|\1.gz|; s|zsh/site-functions|zsh/vendor-completions|') \
     share/doc/tibzharuk/{copyright,README.md,SECURITY.md,CITATION.cff,CHANGELOG.md,changelog.gz,NOTICES.md,licences/LGPL-2.1} \
-    share/tibzharuk/{workflow/Snakefile,profiles/slurm-v8/config.yaml} lib/tibzharuk/relink/fq_prog.o; do
+    lib/tibzharuk/relink/fq_prog.o; do
     [ -s "$root/usr/$file" ] || fail "the package lacks $file"
   done
   [[ $(dpkg-deb -f "$package" Depends) == *python3* && $(dpkg-deb -f "$package" Recommends) == *tabix* && $(dpkg-deb -f "$package" Suggests) == *cutadapt* ]] ||

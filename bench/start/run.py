@@ -39,7 +39,8 @@ def main():
     given = parser.parse_args()
     program = given.program.resolve()
     with tempfile.TemporaryDirectory() as room:
-        subprocess.run(['bash', TREE / 'packaging/install.sh', program, room], check=True)
+        subprocess.run(['bash', TREE / 'packaging/install.sh', program, room], check=True,
+                       stdout=subprocess.DEVNULL)
         for side in '12':
             reads = (TREE / f'examples/reads_{side}.fq').read_bytes().splitlines(True)[:40]
             Path(room, f'{side}.fq.gz').write_bytes(gzip.compress(b''.join(reads)))

@@ -77,11 +77,12 @@ INPUTS AND OUTPUTS
 OPTIONS
     Defaults are in parentheses.
 
-    --adapters WHAT        3' adapters: truseq, nextera or smallrna, as Illumina
-                           publishes them; auto, which takes one of these; a
-                           FASTA file for both sides; one SEQUENCE for both; or
-                           SEQUENCE,SEQUENCE for the forward and the reverse
-                           side. Given again, it adds others
+    --adapters WHAT        3' adapters: auto, truseq, nextera or smallrna, as
+                           Illumina publishes them (auto takes the one that the
+                           first reads hold); a FASTA file for both sides; one
+                           SEQUENCE for both; or SEQUENCE,SEQUENCE for the
+                           forward and the reverse side. Given again, it adds
+                           others
     --poly-g               trim the ends of reads by quality 20, as if each G
                            there were poor: for machines of two colours
                            (--nextseq-trim=20 of cutadapt)
