@@ -120,7 +120,7 @@ begin() {
 
 # begun: waits until the outputs are written
 begun() {
-  for _ in {1..600}; do
+  for _ in {1..2400}; do
     [ -n "$(find "$work/out" -name '.p1.fq.gz.tibzharuk.*' -size +0)" ] && return
     sleep 0.05
   done

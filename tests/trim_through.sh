@@ -145,7 +145,7 @@ signalled() {
   set -m
   (cd "$work" && PATH=$tools exec "${trim[@]}" --program "$program" "${into[@]}" --through 'cat; echo > out/ready; exec sleep 600' "${last[@]}") > "$work/printed" 2> "$work/told" &
   set +m
-  for _ in {1..600}; do
+  for _ in {1..2400}; do
     [ -e "$work/out/ready" ] && break
     sleep 0.05
   done
