@@ -120,7 +120,7 @@ same_from_tables() {
 # refused_setting NAME VALUE LINE: a dry run refuses a setting with that line
 refused_setting() {
   row="a dry run with $1=$2"
-  call 1 --profile profiles/local --dry-run --config "$1=$2"
+  call 1 --profile profiles/local --dry-run --config trim_logs=False "$1=$2"
   grep -qF -- "settings: tibzharuk: $3" said || fail "'$3' was not said, but: $(grep -v '^ *File' said | paste -sd' ' | cut -c 1-300)"
 }
 
