@@ -8,7 +8,7 @@ points of this package (pyproject.toml).
 
 def add_search_pattern() -> None:
     """Says how MultiQC recognizes a report: it is one line that names the program."""
-    from multiqc.utils import config
+    from multiqc import config
 
     pattern = {"contents": '"program":"fq_prog"', "num_lines": 1}
     config.update_dict(config.sp, {"tibzharuk": pattern})

@@ -8,11 +8,16 @@ from typing import Any, Callable, Dict, Mapping, Sequence, Tuple
 
 from multiqc.modules.base_module import BaseMultiqcModule
 from multiqc.plots import bargraph, linegraph
-from multiqc.utils import config
+from multiqc import config
 
 from ..report.reading import LAST, SIDES, Refused, Report, plain, read_report
 
 from . import counts
+
+try:  # MultiQC 1.16 or later
+    from multiqc.modules.base_module import ModuleNoSamplesFound as NoSamples
+except ImportError:
+    NoSamples = UserWarning
 
 log = logging.getLogger("multiqc.modules.tibzharuk")  # whose lines MultiQC prints
 
@@ -53,31 +58,11 @@ WHEN = {
 }
 REMOVED = {"front": "at the start", "behind": "at the end"}
 MORE = f"{LAST} means {LAST} or more."
-SHARE = "<b>{}</b>: {{point.y:.2f}} %"
 LABELS: Dict[str, Dict[str, Any]] = {
-    "scores": {
-        "xlab": "Position",
-        "ylab": "Mean score",
-        "tt_label": "<b>position {point.x}</b>: {point.y:.1f}",
-    },
-    "means": {
-        "xlab": "Mean score",
-        "ylab": "Per cent of reads",
-        "xDecimals": False,
-        "tt_label": SHARE.format("mean score {point.x}"),
-    },
-    "lengths": {
-        "xlab": "Bases",
-        "ylab": "Per cent of reads",
-        "xDecimals": False,
-        "tt_label": SHARE.format("{point.x} bases"),
-    },
-    "removed": {
-        "xlab": "Bases removed",
-        "ylab": "Per cent of surviving reads",
-        "xDecimals": False,
-        "tt_label": SHARE.format("{point.x} bases removed"),
-    },
+    "scores": {"xlab": "Position", "ylab": "Mean score"},
+    "means": {"xlab": "Mean score", "ylab": "Per cent of reads"},
+    "lengths": {"xlab": "Bases", "ylab": "Per cent of reads"},
+    "removed": {"xlab": "Bases removed", "ylab": "Per cent of surviving reads"},
 }
 # Each line graph before and after trimming: the counts that it needs, its points, its title, and
 # what it shows.
@@ -129,7 +114,7 @@ class MultiqcModule(BaseMultiqcModule):
         reports, stopped = self.read_reports()
         self.reports, self.stopped = self.ignore_samples(reports), self.ignore_samples(stopped)
         if not self.reports and not self.stopped:
-            raise UserWarning
+            raise NoSamples
         log.info("Found %d reports", len(self.reports))
         self.name_stopped()
         if getattr(config, "tibzharuk_warnings", True):
