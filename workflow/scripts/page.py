@@ -22,6 +22,7 @@ PYTHON = HERE.parent.parent / "python"  # which has the module that MultiQC load
 sys.dont_write_bytecode = True
 sys.path.insert(0, str(PYTHON))
 
+from tibzharuk.multiqc.counts import MOST_NAMED  # noqa: E402
 from tibzharuk.report.overview import last_line, overview, warnings_of  # noqa: E402
 from tibzharuk.report.reading import Refused, read_report  # noqa: E402
 from tibzharuk.report.settings import how_trimmed  # noqa: E402
@@ -211,8 +212,11 @@ def plugin(room):
 def run_multiqc(room, top):
     """Has MultiQC make the page of what is in `room`/read in `room`/written, with this text above its tables."""
     config = room / "top.json"  # JSON is YAML, too
-    # The plugin would name the samples with warnings too.
-    config.write_text(json.dumps({"report_comment": top, "tibzharuk_warnings": False}), encoding="utf-8")
+    # The plugin would name the samples with warnings too, and MultiQC draw a line for each log of cutadapt.
+    said = {"report_comment": top, "tibzharuk_warnings": False}
+    if len(list((room / "read").glob("*_cutadapt.txt"))) > MOST_NAMED:
+        said["remove_sections"] = [f"cutadapt_trimmed_sequences{end}" for end in ("", "_5", "_3")]
+    config.write_text(json.dumps(said), encoding="utf-8")
     paths = [str(plugin(room)), str(PYTHON), os.environ.get("PYTHONPATH", "")]
     environment = dict(os.environ, PYTHONPATH=os.pathsep.join(filter(None, paths)), PYTHONDONTWRITEBYTECODE="1")
     settings = ["--config", str(HERE.parent / "multiqc.yaml"), "--config", str(config)]
