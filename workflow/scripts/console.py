@@ -10,7 +10,7 @@ import time
 
 QUIET = ("job_info", "job_finished", "progress")
 # Lines that come with each job, and one that would come after the line on all samples.
-NOISE = ("Select jobs to execute...", "Complete log: ")
+NOISE = ("Select jobs to execute...", "Removing temporary output ", "Complete log: ")
 
 
 class Console:
