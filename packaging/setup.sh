@@ -31,7 +31,7 @@ fi
 echo "Installs ${missing[*]}"
 timeout --foreground 300 "${apt[@]}" update || true
 # apt installs none of several if one is unknown, so then each is installed by itself.
-if ! timeout --foreground 3600 "${apt[@]}" install -y --no-install-recommends "${missing[@]}"; then
+if ! timeout --foreground 1800 "${apt[@]}" install -y --no-install-recommends "${missing[@]}"; then
   for package in "${missing[@]}"; do timeout --foreground 600 "${apt[@]}" install -y --no-install-recommends "$package"; done
 fi
 mapfile -t missing < <(bash packaging/missing_packages.sh)
