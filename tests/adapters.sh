@@ -202,7 +202,8 @@ while IFS='|' read -r row line words; do
 done << END
 wrapped records|cannot read wrapped_1.fq: $wrapped|-1 wrapped_1.fq -2 truseq_2.fq
 wrapped records, compressed|cannot read wrapped_1.fq.gz: $wrapped|-1 wrapped_1.fq.gz -2 truseq_2.fq
-names that differ|cutadapt: $other (truseq_1.fq, other_2.fq)|-1 truseq_1.fq -2 other_2.fq
+names that differ|input: record 2: NamesDiffer: truseq_1.fq has 'r2' and other_2.fq has 'x2' (see --no-name-check)|-1 truseq_1.fq -2 other_2.fq
+mates that are missing|input: reverse record 101: MateMissing: fewer_2.fq: the file ends before this record, and truseq_1.fq has it|-1 truseq_1.fq -2 fewer_2.fq
 names that differ, and need not be the same|cutadapt: $other (truseq_1.fq, other_2.fq): cutadapt compares names even with --no-name-check; seqtk rename gives both mates the same ones|-1 truseq_1.fq -2 other_2.fq --no-name-check
 END
 
@@ -214,7 +215,6 @@ while IFS='|' read -r row begin end words; do
   [[ $(cat told) == "tibzharuk: cutadapt: $begin "*" $end" ]] || fail "it says $(cat told)"
 done << END
 wrapped records after others|Error in FASTQ file at line|(later_1.fq, truseq_2.fq): $remedy|-1 later_1.fq -2 truseq_2.fq
-mates that are missing|Error in sequence file|(truseq_1.fq, fewer_2.fq)|-1 truseq_1.fq -2 fewer_2.fq
 END
 
 row='the report without cutadapt'
@@ -247,7 +247,7 @@ END
 row='the samples of MultiQC'
 if command -v multiqc > /dev/null; then
   made '' -1 truseq_1.fq -2 truseq_2.fq "${outputs[@]}" --adapters truseq --report out/liver.json --cutadapt-log out/liver.log -- "${steps[@]}"
-  bash "$tree/packaging/install.sh" "$program" installed || fail 'it is not installed'
+  bash "$tree/packaging/install.sh" "$program" installed > /dev/null || fail 'it is not installed'
   PYTHONPATH=installed/lib/python3/dist-packages multiqc --outdir seen out > multiqc.log 2>&1 || fail "$(cat multiqc.log)"
   for each in cutadapt tibzharuk; do grep -q "$each" multiqc.log || fail "it doesn't find $each: $(cat multiqc.log)"; done
   samples=$(cut -f 1 seen/multiqc_data/multiqc_general_stats.txt)

@@ -37,7 +37,7 @@ shows() {
   fi
 }
 
-bash "$tree/packaging/install.sh" "$program" "$work/installed" || exit 1
+bash "$tree/packaging/install.sh" "$program" "$work/installed" > /dev/null || exit 1
 mkdir -p lab/b lab/other
 for kind in plain long small none; do python3 "$tree/tests/count.py" "$kind" "lab/$kind.json" || exit 1; done
 draw_lane a 1 300

@@ -332,16 +332,16 @@ explained() { { (cd "$work" && "$program" PE --explain "$@" "${steps[@]}") > /de
 
 if [ -w /dev/full ]; then
   row='a full device after the program'
-  refused 4 "tibzharuk: $(explained data/f data/r /dev/full /dev/null /dev/null /dev/null)" "${both[@]}" --paired1 /dev/full "${outputs[@]:2}" "${last[@]}"
+  refused 4 "tibzharuk: $(explained data/f data/r /dev/full /dev/null /dev/null /dev/null); what was written to /dev/full is incomplete: discard what was made of it" "${both[@]}" --paired1 /dev/full "${outputs[@]:2}" "${last[@]}"
   row='a full device as the log'
-  refused 4 "tibzharuk: $(explained --trimlog /dev/full data/f data/r /dev/null /dev/null /dev/null /dev/null)" "${both[@]}" "${outputs[@]}" --trimlog /dev/full "${last[@]}"
+  refused 4 "tibzharuk: $(explained --trimlog /dev/full data/f data/r /dev/null /dev/null /dev/null /dev/null); what was written to /dev/full is incomplete: discard what was made of it" "${both[@]}" "${outputs[@]}" --trimlog /dev/full "${last[@]}"
   row='a full device as the report'
   refused 4 'tibzharuk: cannot write /dev/full: No space left on device' "${both[@]}" "${outputs[@]}" --report /dev/full "${last[@]}"
   row='a full device after a compressor'
   ln -s /dev/full full.gz
   # full LINE WORDS..
   full() {
-    local line=$1
+    local line="$1; what was written to data/full.gz is incomplete: discard what was made of it"
     shift
     refused 4 "$line" "$@" "${both[@]}" --paired1 out/x.gz --unpaired1 out/y.gz --paired2 out/z.gz --unpaired2 data/full.gz "${last[@]}"
     refused 4 "$line" "$@" "${both[@]}" --paired1 data/full.gz --unpaired1 out/y.gz --paired2 out/z.gz --unpaired2 out/x "${last[@]}"
@@ -649,13 +649,8 @@ if has cutadapt cutadapt; then
   damaged data/f.cut.gz 'unexpected end of file' -1 data/f.cut.gz -2 data/r.gz --adapters "$adapters" "${rest[@]}"
   damaged data/i.between.gz 'unexpected end of file' -i data/i.between.gz --adapters "$adapters" "${rest[@]}"
   row='adapters, and files that are not mates'
-  earlier
-  (cd "$work" && trimmed -1 data/f.gz -2 data/b2.gz --adapters "$adapters" "${rest[@]}") > "$work/printed" 2> "$work/told"
-  [ $? -eq 3 ] || fail 'the status is not 3'
-  # cutadapt names the reads or their number, as it depends on how many bytes it read at once.
-  [[ $(cat "$work/told") == 'tibzharuk: cutadapt: Error in sequence file at unknown line: Reads are improperly paired. '*' (data/f.gz, data/b2.gz)' ]] ||
-    fail "it says $(cat "$work/told")"
-  untouched
+  refused 3 "tibzharuk: input: record 1: NamesDiffer: data/f.gz has 'r1' and data/b2.gz has 'r1501' (see --no-name-check)" \
+    -1 data/f.gz -2 data/b2.gz --adapters "$adapters" "${rest[@]}"
   row='kill -9, with cutadapt'
   killed xf -2 data/xr --paired1 out/p1.fq "${outputs[@]:2}" --adapters "$adapters" --threads 2 "${last[@]}"
   row='a process of cutadapt that is killed'
