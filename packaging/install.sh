@@ -1,7 +1,8 @@
 #!/usr/bin/env bash
 # Puts the program and the command with its Python package, their manual pages, their completion, the
-# workflow and the plugin of MultiQC below a directory such as /usr/local, or removes them. `make install`, the
-# tarball and the Debian package have all of them by this list. Neither pip nor a network is needed.
+# workflow and the plugin of MultiQC below a directory such as /usr/local, or removes them.
+# `make install`, the tarball and the Debian package have all of them by this list. Neither pip nor a
+# network is needed.
 set -euo pipefail
 umask 022
 export LC_ALL=C

@@ -1,8 +1,8 @@
 #!/usr/bin/env bash
 # The container image of packaging/Containerfile, on a Debian 12 made by mmdebstrap. buildah builds
-# it twice with the same bytes. tibzharuk trim in the image, run by buildah, and by Charliecloud from the
-# unpacked archive, makes of compressed reads what the program here makes of the plain texts. Then
-# the package on a fresh Debian 12: its manual pages are found, and bash completes its commands.
+# it twice with the same bytes. tibzharuk trim in the image, run by buildah, and by Charliecloud from
+# the unpacked archive, makes of compressed reads what the program here makes of the plain texts.
+# Then the package on a fresh Debian 12: its manual pages are found, and bash completes its commands.
 # FQ_PROG is the program, crates/fq_prog/out/fq_prog if not set. Status 77, and 'skipped', if a
 # package, root or the network is missing.
 set -uo pipefail

@@ -1,9 +1,9 @@
 #!/usr/bin/env bash
-# The description of tibzharuk trim for engines of the Common Workflow Language, run by cwltool: two lanes
-# of a sample, with each output compared with what the program makes of the plain texts, also if the
-# name of the sample begins with a dash; and a damaged input, which ends as permanentFail and leaves
-# nothing. The terms of EDAM and the licences are those that the description should have. It is not
-# run in a container.
+# The description of tibzharuk trim for engines of the Common Workflow Language, run by cwltool: two
+# lanes of a sample, with each output compared with what the program makes of the plain texts, also
+# if the name of the sample begins with a dash; and a damaged input, which ends as permanentFail and
+# leaves nothing. The terms of EDAM and the licences are those that the description should have. It
+# is not run in a container.
 # FQ_PROG is the program, crates/fq_prog/out/fq_prog if not set. Status 77, and 'skipped', if a
 # package is missing.
 set -uo pipefail

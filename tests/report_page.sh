@@ -1,10 +1,10 @@
 #!/usr/bin/env bash
-# Makes pages with tibzharuk page and reads them as HTML. Each is well formed, loads
-# nothing, runs nothing, and has the numbers of its report. The reports are those of the program,
-# and those of a slow count: with no read, with one base, with 150 bases and with more than 10,000,
-# with reads that are all alike, and with other letters than A, C, G, T and N. No text of a report
-# becomes markup. Faults, and scores that are too high, are at the top. A file that is not a report
-# is refused in one line.
+# Makes pages with tibzharuk page and reads them as HTML. Each is well formed, loads nothing, runs
+# nothing, and has the numbers of its report. The reports are those of the program, and those of a
+# slow count: with no read, with one base, with 150 bases and with more than 10,000, with reads that
+# are all alike, and with other letters than A, C, G, T and N. No text of a report becomes markup.
+# Faults, and scores that are too high, are at the top. A file that is not a report is refused in one
+# line.
 #
 # Chromium shows each page in windows of 1280 and of 400 pixels, light and dark: nothing is cut,
 # wider than the window, too small or too pale, nothing is printed on the console, and nothing is

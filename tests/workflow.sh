@@ -1,8 +1,8 @@
 #!/usr/bin/env bash
 # Runs the workflow for many samples with the real Snakemake and MultiQC, on this machine: four
 # samples, one of two lanes and one damaged. Compares each output with direct calls of the program,
-# and reads the page's data, and its table in a browser. It also reads tables that tibzharuk samples and
-# nf-core make, and refuses bad ones.
+# and reads the page's data, and its table in a browser. It also reads tables that tibzharuk samples
+# and nf-core make, and refuses bad ones.
 #
 # FQ_PROG is the program, crates/fq_prog/out/fq_prog if not set. Status 77, and 'skipped', if a
 # package is missing.
