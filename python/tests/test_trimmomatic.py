@@ -25,6 +25,7 @@ def folder(tmp_path, monkeypatch):
     (tmp_path / "empty.fa").write_text(">x\n")
     (tmp_path / "none.fa").write_text("")
     (tmp_path / "reads").write_text("@r\nA\n+\nI\n")
+    (tmp_path / "later").write_bytes(b"\r\n\n@r\nA\n+\nI\n")
     (tmp_path / "log").write_text("r 1 0 1 0\n")
     (tmp_path / "log.gz").write_bytes(gzip.compress(b"r 1 0 1 0\n"))
     (tmp_path / "packed").write_bytes(gzip.compress(b"r 1 0 1 0\n"))
@@ -142,8 +143,8 @@ def test_what_is_refused(line, status, start):
 
 
 @pytest.mark.parametrize("name, is_refused", (
-    ("reads", True), ("reads.gz", True), ("packed", True), ("log", False), ("log.gz", False),
-    ("nowhere", False), ("/dev/null", False)))
+    ("reads", True), ("later", True), ("reads.gz", True), ("packed", True), ("log", False),
+    ("log.gz", False), ("nowhere", False), ("/dev/null", False)))
 def test_files_that_hold_reads(name, is_refused):
     assert holds_reads(name) == is_refused
 

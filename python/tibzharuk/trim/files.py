@@ -77,7 +77,8 @@ def holds_reads(name: str) -> bool:
         return False
     with contextlib.suppress(OSError), open(name, "rb") as file:
         is_packed = file.read(2) == b"\x1f\x8b"
-        return is_packed and not is_gzip_name(name) or beginning(name).startswith(b"@")
+        text = beginning(name).lstrip(b"\r\n")    # which the program skips
+        return is_packed and not is_gzip_name(name) or text.startswith(b"@")
     return False
 
 
