@@ -23,6 +23,8 @@ def folder(tmp_path, monkeypatch):
     (tmp_path / "own.fa").write_text(">x\nACGT\n>y/1\nAA\n>y/2\nCC\n")
     (tmp_path / "half.fa").write_text(">PrefixPE/2\nAACC\n")
     (tmp_path / "empty.fa").write_text(">x\n")
+    (tmp_path / "star.fa").write_text(">x\nACGT*\n")
+    (tmp_path / "list.fa").write_text("ACGT\n")
     (tmp_path / "none.fa").write_text("")
     (tmp_path / "reads").write_text("@r\nA\n+\nI\n")
     (tmp_path / "later").write_bytes(b"\r\n\n@r\nA\n+\nI\n")
@@ -115,6 +117,9 @@ def test_adapters(steps, cutadapt, others):
     (f"{FILES} ILLUMINACLIP:own.fa", 2, "ILLUMINACLIP:own.fa: its form is"),
     (f"{FILES} ILLUMINACLIP:own.fa:2:30:10:true", 2, "ILLUMINACLIP:own.fa:2:30:10:true: its form"),
     (f"{FILES} ILLUMINACLIP:empty.fa:2:30:10", 2, "ILLUMINACLIP: empty.fa has no sequence for x"),
+    (f"{FILES} ILLUMINACLIP:star.fa:2:30:10", 2,
+     "ILLUMINACLIP: star.fa has a letter that is no base in x"),
+    (f"{FILES} ILLUMINACLIP:list.fa:2:30:10", 2, "ILLUMINACLIP: list.fa isn't FASTA: its first"),
     (f"{FILES} ILLUMINACLIP:none.fa:2:30:10", 2, "ILLUMINACLIP: none.fa has no adapters"),
     (f"{FILES}", 1, "no steps, such as MINLEN:36"),
     (f"{FILES} more CROP:9", 2, "more is not a step: LEADING, TRAILING"),

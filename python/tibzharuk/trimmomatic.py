@@ -286,10 +286,11 @@ def adapters_of(name: str, alone: int, of_pair: int) -> List[str]:
     sequence alone are needed, and so many of the primers of a pair."""
     found: Dict[str, Dict[str, int]] = {"-a": {}, "-A": {}}
     primers: Dict[str, Dict[str, str]] = {}
-    for each in read_fasta(name):
+    for each in read_fasta(name, CLIP):
         start, end = each.name[:-2], each.name[-2:]
         if not re.match(f"{LETTERS}+$", each.sequence, re.I):
-            raise Fault(2, f"{CLIP}: {name} has no sequence for {each.name or 'an adapter'}")
+            what = "a letter that is no base in" if each.sequence else "no sequence for"
+            raise Fault(2, f"{CLIP}: {name} has {what} {each.name or 'an adapter'}")
         if each.name.startswith(PALINDROME) and end in ("/1", "/2"):
             primers.setdefault(start, {})[end] = each.sequence
         else:

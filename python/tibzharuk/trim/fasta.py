@@ -39,8 +39,9 @@ def read_text(name: str) -> str:
         raise Fault(4, f"cannot read {name}: {getattr(error, 'strerror', None) or error}")
 
 
-def read_fasta(name: str) -> List[Entry]:
-    """The adapters of a FASTA file. Lines that begin with # are comments."""
+def read_fasta(name: str, option: str = "--adapters") -> List[Entry]:
+    """The adapters of a FASTA file, which this option names. Lines that begin with # are
+    comments."""
     entries: List[Entry] = []
     for line in read_text(name).splitlines():
         if line.startswith(">"):
@@ -48,7 +49,7 @@ def read_fasta(name: str) -> List[Entry]:
         elif line.startswith("#") or not line.strip():
             continue
         elif not entries:
-            raise Fault(2, f"--adapters: {name} isn't FASTA: its first line doesn't begin with >")
+            raise Fault(2, f"{option}: {name} isn't FASTA: its first line doesn't begin with >")
         else:
             last = entries[-1]
             entries[-1] = last._replace(sequence=last.sequence + line.strip())
