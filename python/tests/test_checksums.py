@@ -39,6 +39,15 @@ def test_a_file(tmp_path):
     assert checksums.checksums([], "s.sha256") == b""
 
 
+def test_no_thread_can_be_started(tmp_path, monkeypatch):
+    def refuse(thread):
+        raise RuntimeError("can't start new thread")     # as Python does
+    monkeypatch.setattr("threading.Thread.start", refuse)
+    with pytest.raises(Fault) as caught:
+        checksums.checksums([Output("paired1", str(tmp_path / "p.fq"))], "s.sha256")
+    assert caught.value.status == 6
+
+
 def test_the_last_output():
     got = arguments.Arguments("--out d/s --checksums --summary x".split())
     assert got.outputs_in_order()[-1] == ("checksums", "d/s.sha256")

@@ -5,6 +5,7 @@ import os
 from concurrent.futures import ThreadPoolExecutor
 from typing import Sequence
 
+from .faults import Fault
 from .files import Output
 
 PIECE = 1 << 20
@@ -40,6 +41,8 @@ def checksums(outputs: Sequence[Output], name: str) -> bytes:
     pool = ThreadPoolExecutor(max(1, len(outputs)))
     try:
         found = list(pool.map(sha256_of, [output.written() for output in outputs]))
+    except RuntimeError:
+        raise Fault(6, "cannot start the threads that make checksums")
     finally:
         pool.shutdown(wait=False)   # a signal doesn't wait for their end
     folder = os.path.dirname(name)
