@@ -79,15 +79,15 @@ def kit_of(program: str) -> str:
         return ""
 
 
-def show_version() -> int:
+def show_version(name: str = PROGRAM) -> int:
     """The version of this package, that of the program, which prints it itself, and its kit."""
     from . import VERSION
     from .trim.tools import which
     sys.stdout.write(f"tibzharuk {VERSION}\n")
     sys.stdout.flush()
-    program = which(PROGRAM)
+    program = which(name)
     if program is None:
-        return refuse(f"no program {PROGRAM} on the search path")
+        return refuse(f"no program {name} on the search path")
     try:
         child = os.posix_spawn(program, [PROGRAM, "--version"], os.environ)
     except OSError as error:

@@ -110,7 +110,7 @@ OPTIONS
                            path)
     -h, --help             this text
     --dry-run              print what would be started, and start nothing
-    -V, --version          the program's version
+    -V, --version          the versions of this command and of the program
 
     Six options are those of fq_prog (see fq_prog PE --help):
 

@@ -505,7 +505,10 @@ def run(arguments: Arguments) -> None:
     if not which(arguments.program):
         raise Fault(1, f"no program {arguments.program} (--program PATH)")
     if arguments.asks_version:
-        os.execvp(arguments.program, [arguments.program, "--version"])
+        from ..command import show_version
+        if show_version(arguments.program) != 0:
+            raise Fault(1, "")  # it says why
+        return
     arguments.check()
     one = Run(arguments)
     if arguments.dry_run:
