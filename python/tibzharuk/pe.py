@@ -10,7 +10,8 @@ DESCRIPTION
     Runs a line of Trimmomatic 0.39. Files whose names end in .gz are
     compressed. All outputs are made, or none. Options may be anywhere, and
     those with two dashes are those of tibzharuk trim, so a line of fq_prog PE
-    runs too.
+    runs too. With --out PREFIX it also makes PREFIX.json (the report),
+    PREFIX.html and, with --checksums, PREFIX.sha256.
 
     ILLUMINACLIP is done before all other steps. The adapters of its file are
     removed by cutadapt, not by Trimmomatic's rule, and both mates of a pair
