@@ -148,6 +148,11 @@ class TestArguments(Pieces):
     def test_what_is_refused(self, words, line):
         assert self.refused(arguments.Arguments, words.split()) == (1, line)
 
+    @pytest.mark.parametrize("words", (["", "-i", "a"], ["-i", "a", "", "b"], ["-i", "a", "--sync", ""]))
+    def test_empty_arguments(self, words):      # as of variables that aren't set
+        line = "an argument is empty: is a variable not set? (tibzharuk trim --help)"
+        assert self.refused(arguments.Arguments, words) == (1, line)
+
     @pytest.mark.parametrize("step, start", (
         ("MAXINFO:40:0.5", "MAXINFO:40:0.5 is not among the steps here: SLIDINGWINDOW"),
         ("ILLUMINACLIP:x.fa:2:30:10", "ILLUMINACLIP:x.fa:2:30:10 is not among the steps here"),

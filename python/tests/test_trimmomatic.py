@@ -5,6 +5,7 @@ import gzip
 import pytest
 
 from tibzharuk import trimmomatic
+from tibzharuk.pe import arguments_of
 from tibzharuk.trim.faults import Fault
 from tibzharuk.trim.files import holds_reads
 from tibzharuk.trimmomatic import offset_of, translated
@@ -115,6 +116,7 @@ def test_adapters(steps, cutadapt, others):
      "ILLUMINACLIP: cannot read d/TruSeq3-PE.fa: it isn't there; in place of the step, "
      "--adapters truseq"),
     (f"{FILES} ILLUMINACLIP:own.fa", 2, "ILLUMINACLIP:own.fa: its form is"),
+    (f"{FILES} ILLUMINACLIP::2:30:10", 2, "ILLUMINACLIP::2:30:10: its form is"),
     (f"{FILES} ILLUMINACLIP:own.fa:2:30:10:true", 2, "ILLUMINACLIP:own.fa:2:30:10:true: its form"),
     (f"{FILES} ILLUMINACLIP:empty.fa:2:30:10", 2, "ILLUMINACLIP: empty.fa has no sequence for x"),
     (f"{FILES} ILLUMINACLIP:star.fa:2:30:10", 2,
@@ -145,6 +147,18 @@ def test_what_is_refused(line, status, start):
         translated(line.split())
     assert caught.value.status == status
     assert caught.value.line.startswith(start)
+
+
+@pytest.mark.parametrize("words, start", (
+    (["", *FILES.split(), "CROP:9"], "an argument is empty"),
+    ([*FILES.split(), "", "CROP:9"], "an argument is empty"),
+    (["a", "b", "-baseout", "", "CROP:9"], "-baseout has no value"),
+    (["--report", "", *FILES.split(), "CROP:9"], "--report has no value"),
+))
+def test_empty_arguments(words, start):     # as of variables that aren't set
+    with pytest.raises(Fault) as caught:
+        translated(words)
+    assert (caught.value.status, caught.value.line[:len(start)]) == (1, start)
 
 
 @pytest.mark.parametrize("name, is_refused", (
@@ -207,6 +221,13 @@ def test_notes(steps, ends):
     notes = translated(f"-phred33 {FILES} {steps}".split()).notes
     assert [note.endswith(end) for note, end in zip(notes, ends)] == [True] * len(notes)
     assert len(notes) == len(ends)
+
+
+def test_what_out_adds():
+    words = f"-phred33 {FILES} --out s --checksums CROP:9".split()
+    assert arguments_of(translated(words)).outputs == {
+        "paired1": "p1", "unpaired1": "u1", "paired2": "p2", "unpaired2": "u2",
+        "report": "s.json", "html": "s.html", "checksums": "s.sha256"}
 
 
 SUMMARY = ("Input Read Pairs: 8\nBoth Surviving: 5\nForward Only Surviving: 1\n"

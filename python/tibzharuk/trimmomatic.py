@@ -17,7 +17,7 @@ import re
 from typing import Dict, Iterator, List, NamedTuple, Optional, Sequence, Tuple
 
 from .trim.adapters import LETTERS, PALINDROME
-from .trim.arguments import Parser
+from .trim.arguments import EMPTY, Parser
 from .trim.fasta import other_strand, read_fasta
 from .trim.faults import Fault
 from .trim.files import holds_reads
@@ -85,6 +85,8 @@ class Words:
             if word == "--":
                 self.others += left
                 break
+            if not word:
+                raise Fault(1, f"{EMPTY} {HELP}")
             if word.startswith("--"):
                 self.read_long(word, left)
             elif word.startswith("-") and word != "-":
@@ -135,7 +137,7 @@ class Words:
 
 
 def value_of(option: str, left: List[str]) -> str:
-    if not left or left[0].startswith("-") and len(left[0]) > 1 or is_step(left[0]):
+    if not left or not left[0] or left[0].startswith("-") and left[0] != "-" or is_step(left[0]):
         raise Fault(1, f"{option} has no value {HELP}")
     return left.pop(0)
 
@@ -316,7 +318,8 @@ class Clip(NamedTuple):
 
 def clipped(step: str) -> Clip:
     given = step.rstrip(":").split(":")
-    if not 5 <= len(given) <= 7 or not all(re.match("[0-9]+$", each) for each in given[2:6]):
+    has_numbers = all(re.match("[0-9]+$", each) for each in given[2:6])
+    if not 5 <= len(given) <= 7 or not given[1] or not has_numbers:
         raise Fault(2, f"{step}: its form is {CLIP}:FILE:2:30:10 (and :8:true)")
     name = found_file(given[1])
     alone = math.ceil(int(given[4]) / SCORE) + 1

@@ -42,6 +42,7 @@ LETTERS_WITHOUT_VALUE = "NZz"    # of cutadapt: another option may follow in the
 PASSED_NUMBERS = {"block": 65536, "depth": 64, "chunk": 1048576}   # and the most of each
 MOST_PAIRS = 10 ** 12
 HELP = "(tibzharuk trim --help)"
+EMPTY = "an argument is empty: is a variable not set?"
 
 
 class HelpAsked(Exception):
@@ -183,6 +184,8 @@ class Parser(argparse.ArgumentParser):
                 return options, left
             if word in ("--help", "-h"):
                 raise HelpAsked
+            if not word:
+                raise Fault(1, f"{EMPTY} {HELP}")
             if is_step(word):
                 check_steps([word] + left)
                 return options, [word] + left
