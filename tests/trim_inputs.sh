@@ -56,6 +56,11 @@ if has bgzip tabix; then
   late late1.gz f.open.gz 0
   refused 3 'tibzharuk: data/late1.gz may be cut: the end block of BGZF is missing' --need-end -1 data/late1.gz -2 data/r.closed.gz "${rest[@]}"
   all_late
+  row='such a pipe, of which a stream was made'
+  late late1.gz f.open.gz 0
+  refused 3 'tibzharuk: data/late1.gz may be cut: the end block of BGZF is missing; what was written to /dev/zero is incomplete: discard what was made of it' \
+    --need-end -1 data/late1.gz -2 data/r.closed.gz --out out/s --unpaired1 /dev/zero "${last[@]}"
+  all_late
 fi
 
 # numbered NUMBER FILE: with titles as sequencers write them today

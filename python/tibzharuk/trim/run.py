@@ -364,11 +364,11 @@ class Run:
                 self.end_writer(self.outputs[child.name], child.ended())
         if self.writer:
             raise self.writer
-        self.streams.clear()    # they are complete
         if self.arguments.through:
             self.check_result(self.outputs["interleaved"])
         self.progress.wipe()
         self.warn()
+        self.streams.clear()    # they are complete
         texts = self.own_texts()
         with self.family.heeding_signals():
             for role, text in texts.items():
