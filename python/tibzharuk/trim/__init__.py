@@ -4,6 +4,7 @@
     arguments   the arguments of a run
     steps       the words of steps
     tools       compressors and decompressors: which are safe, their arguments and messages
+    look        what a run looks at before it starts, by means of
     checks      what inputs show before a run
     files       inputs and outputs, hidden names and final names
     plan        what is started: processes and pipes, from arguments alone

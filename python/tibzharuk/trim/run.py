@@ -9,14 +9,13 @@ from typing import Dict, List, NoReturn, Optional, Sequence, Tuple
 
 from . import faults, records
 from .arguments import CHECKSUMS, Arguments, HelpAsked
-from .checks import check_interleaved, check_lanes, no_end
+from .checks import no_end
 from .children import Ended, Family, Pipes
 from .cutadapt import KEEPS_BUFFERS, Cutadapt
 from .faults import Fault, Stopped, reason, say, signal_name, warn, write_all
-from .files import (Output, Side, check_inputs, give_names, readable, sides_of, take_names_back,
-                    with_names)
+from .files import Output, Side, give_names, readable, sides_of, take_names_back, with_names
 from .first_records import copied
-from .known_adapters import taken_by_auto, word_on_adapters, word_on_scores
+from .look import files_with_checksums, look_at_files, look_at_reads, take_adapters
 from .plan import (COUNTED, CUTADAPT_COUNTED, CUTADAPT_PRINTED, FLAGS, KEPT, PRINTED, TRIMMED, End,
                    Lane, Made, Start, Stream, Word, counter, lane, plan, shown)
 from .progress import Progress
@@ -35,11 +34,10 @@ class Run:
         self.arguments = arguments
         self.tools = Tools(arguments)
         self.sample = sample_name(arguments.outputs)
-        self.sides: List[Side] = []
-        self.outputs: Dict[str, Output] = {}    # by their roles
-        self.look_at_files()
+        self.sides, self.outputs = look_at_files(arguments, self.tools)
         if arguments.asks_auto():
-            self.take_adapters()
+            take_adapters(arguments, self.sides)
+            self.tools = Tools(arguments)   # how hard to compress depends on whether cutadapt runs
         self.cutadapt: Optional[Cutadapt] = None
         if arguments.uses_cutadapt():
             self.cutadapt = Cutadapt(arguments, self.sample)
@@ -62,7 +60,7 @@ class Run:
         self.pipes = Pipes(self.family)
         try:
             self.start_all()
-            self.look_at_reads()
+            look_at_reads(self.arguments, self.sides)   # the children work meanwhile
             self.follow()
             self.judge()
             self.finish()
@@ -84,59 +82,14 @@ class Run:
         if child and self.cutadapt:
             self.cutadapt.watch(child)
 
-    # Before the start.
-
     def has_gz_outputs(self) -> bool:
         return any(output.is_compressed for output in self.outputs.values())
 
-    def look_at_files(self) -> None:
-        """Refuses inputs and outputs that can't be those of a run, and warns of what may be
-        wrong."""
-        arguments = self.arguments
-        check_inputs(arguments.inputs())
-        self.sides = sides_of(arguments)
-        for role, name in arguments.outputs_in_order():
-            output = Output(role, name)
-            output.check(arguments.files_that_are_read(), self.outputs.values())
-            self.outputs[role] = output
-        if CHECKSUMS in self.outputs and not self.files_with_checksums():
-            raise Fault(1, "--checksums: no output is a file")
-        for each in [each for side in self.sides for each in side.inputs]:
-            if each.look():
-                no_end(each.name, arguments.needs_end)
-            each.check_tool(self.tools.decompressor)
-        if arguments.through:
-            self.check_command(self.outputs["interleaved"])
-        if arguments.checks_names:
-            check_lanes(arguments.forward, arguments.reverse)
-            check_interleaved(arguments.both)
-
-    def lanes(self) -> List[Tuple[str, ...]]:
-        return list(zip(*(side.names for side in self.sides)))
-
-    def take_adapters(self) -> None:
-        """Does what --adapters auto asks for, and says which adapters it took."""
-        name, why = taken_by_auto(self.lanes())
-        self.arguments.take(name)
-        self.tools = Tools(self.arguments)  # how hard to compress depends on whether cutadapt runs
-        say(f"--adapters auto takes {name}: {why}")
-
-    def check_command(self, output: Output) -> None:
-        """Refuses the user's command if what runs it, or counts its records, isn't installed."""
-        if not which("bash"):
-            raise Fault(1, "no program bash (--through)")
-        if not self.arguments.expects_pairs:
-            return
-        if output.is_device:
-            raise Fault(1, f"--expect-pairs needs a file, and {output.name} isn't one")
-        if not output.name.lower().endswith(".sam") and not which("samtools"):
-            raise Fault(1, "no program samtools (--expect-pairs)")
+    # The start.
 
     def plan(self) -> List[Start]:
         options = self.cutadapt.options if self.cutadapt else None
         return plan(self.arguments, self.tools, self.sides, self.outputs, options)
-
-    # The start.
 
     def start_all(self) -> None:
         """`next_end` has the order of the plan."""
@@ -197,16 +150,6 @@ class Run:
         found = {self.pipes.name(side.name, False): readable(side.files()) for side in self.sides}
         found.update((self.pipes.name(each, True), "-") for each in (CUTADAPT_COUNTED, TRIMMED))
         return found
-
-    def look_at_reads(self) -> None:
-        """Says if the first pairs hold known adapters, but none are named, or if their scores are
-        those of another encoding. The children work meanwhile."""
-        lanes = self.lanes()
-        words = [] if self.arguments.names_adapters() else [word_on_adapters(lanes)]
-        words += [] if self.arguments.encoding else [word_on_scores(lanes[0])]
-        for word in words:
-            if word:
-                warn(word)
 
     # The end of each child.
 
@@ -386,10 +329,6 @@ class Run:
             raise
         faults.ignore_signals()
 
-    def files_with_checksums(self) -> List[Output]:
-        return [output for role, output in self.outputs.items()
-                if role != CHECKSUMS and not output.is_device]
-
     def check_result(self, output: Output) -> None:
         """Refuses what the user's command made, if it is nothing, or, if the user wants to know,
         not the records of all pairs."""
@@ -473,7 +412,7 @@ class Run:
 
     def write_checksums(self, output: Output) -> None:
         from .checksums import checksums    # what it imports takes longer than the rest
-        self.write(output, checksums(self.files_with_checksums(), output.name))
+        self.write(output, checksums(files_with_checksums(self.outputs), output.name))
 
     def clean(self) -> None:
         """Ends the children and removes the hidden files."""
