@@ -21,8 +21,8 @@ DESCRIPTION
     instead.
 
     Names of mates must match, with or without -validatePairs (--no-name-check
-    passes others). Without -phred33 and -phred64 the encoding is told by the
-    first 10,000 reads of both files, by the rule of Trimmomatic. A line says
+    passes others). Without -phred33 and -phred64 the encoding is detected from
+    the first 10,000 reads of both files, by Trimmomatic's rule. A line says
     which it is. If they don't show it, or an input is a pipe, qualities are
     taken as Phred+33.
 

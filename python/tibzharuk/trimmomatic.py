@@ -4,8 +4,8 @@ Trimmomatic's form.
     [-threads N] [-phred33 | -phred64] [-trimlog FILE] [-summary FILE] [-quiet] [-validatePairs]
     [-basein FILE | F R] [-baseout FILE | FP FU RP RU] STEP..
 
-Options may be anywhere. Those with two dashes are those of `trim`. Of the steps, ILLUMINACLIP
-becomes options of cutadapt: the sequences of its file are searched for as 3' adapters. A pair of
+Options may be anywhere. Those with two dashes are those of `trim`. The step ILLUMINACLIP becomes
+options of cutadapt: the sequences of its file are searched for as 3' adapters. A pair of
 sequences whose names begin with Prefix and end in /1 and /2 are the primers of both sides; what a
 read runs into is the reverse complement of the other side's.
 """
@@ -51,8 +51,8 @@ PLACES = ("/usr/share/trimmomatic", "$CONDA_PREFIX/share/trimmomatic*/adapters",
           "$EBROOTTRIMMOMATIC/adapters")
 # What --adapters has for files of Trimmomatic.
 KNOWN = {"TruSeq3-PE.fa": "truseq", "TruSeq3-PE-2.fa": "truseq", "NexteraPE-PE.fa": "nextera"}
-# Trimmomatic tells the encoding by the qualities of so many first reads of each side: by these
-# bytes, of which each encoding lacks one kind.
+# Trimmomatic detects the encoding from the qualities of so many first reads of each side: each
+# encoding lacks one of these kinds of bytes.
 FIRST_READS = 10_000
 LOW, HIGH = bytes(range(33, 59)), bytes(range(80, 105))
 
@@ -218,7 +218,7 @@ def with_place(name: str) -> str:
 
 
 def offset_of(qualities: bytes) -> Optional[int]:
-    """33 or 64, as Trimmomatic tells them, or None if it can't."""
+    """33 or 64, as Trimmomatic detects it, or None if it can't."""
     has_low, has_high = (len(qualities.translate(None, kind)) < len(qualities)
                          for kind in (LOW, HIGH))
     return None if has_low == has_high else 33 if has_low else 64
@@ -241,7 +241,7 @@ class Encoding(NamedTuple):
 
 
 def encoding_of(words: Words, inputs: Sequence[str]) -> Encoding:
-    """As it is given, or as Trimmomatic would tell it, or Phred+33."""
+    """As it is given, or as Trimmomatic would detect it, or Phred+33."""
     if "phred33" in words.given and "phred64" in words.given:
         raise Fault(1, "either -phred33 or -phred64")
     if "phred33" in words.given or any(word.startswith("--encoding=") for word in words.long):

@@ -31,7 +31,7 @@ def other_format(head: bytes) -> Optional[str]:
 
 def lacks_end(fd: int, size: int) -> bool:
     """Whether a file ends in a block of BGZF that holds text. Programs that write BGZF put an empty
-    block behind the last one, so the file may have been cut between two blocks."""
+    block after the last one, so the file may have been cut between two blocks."""
     tail = os.pread(fd, BLOCK_BYTES, max(size - BLOCK_BYTES, 0))
     if tail[-4:] == bytes(4):   # the length of the last text
         return False

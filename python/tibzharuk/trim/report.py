@@ -49,8 +49,8 @@ def of_call(counts: Dict[str, Any], arguments: Arguments,
     """The program's report as that of the user's call, with what cutadapt removed before, and what
     was warned of: the program has read and written pipes and hidden files."""
     import json
-    told = [readable(text) for text in warned]
-    report: Dict[str, Any] = {"adapters": adapters, "warnings": told, **counts}
+    warnings = [readable(text) for text in warned]
+    report: Dict[str, Any] = {"adapters": adapters, "warnings": warnings, **counts}
     if arguments.adapters_auto:
         report["adapters_auto"] = arguments.adapters_auto
     if arguments.pairs and arguments.pairs == pairs_read(counts, adapters):
