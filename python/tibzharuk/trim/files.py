@@ -22,12 +22,12 @@ FROM_PIPE = ["sh", "-c", 'exec "$@" < "$0"']
 # Between two lanes: the line feed ends a last line that has none. Otherwise it is an empty line
 # between two records, which the program skips.
 AFTER_LINE_FEED = ["sh", "-c", 'echo; exec "$@"', "sh"]
+HERE = os.path.dirname(os.path.abspath(__file__))
+PYTHON = (sys.executable or "python3", "-IS")
 # cutadapt takes no empty line, and no last line without a line feed.
-WHOLE_LINES = [sys.executable or "python3", "-IS",
-               os.path.join(os.path.dirname(os.path.abspath(__file__)), "whole_lines.py")]
+WHOLE_LINES = [*PYTHON, os.path.join(HERE, "whole_lines.py")]
 # The first records of a text, whose number follows.
-FIRST_RECORDS = [*WHOLE_LINES[:-1],
-                 os.path.join(os.path.dirname(os.path.abspath(__file__)), "first_records.py")]
+FIRST_RECORDS = [*PYTHON, os.path.join(HERE, "first_records.py")]
 STDOUT_NAMES = ("-", "/dev/stdout", "/dev/fd/1", "/proc/self/fd/1")
 STDERR_NAMES = ("/dev/stderr", "/dev/fd/2", "/proc/self/fd/2")
 # Under these names a reader expects a format that isn't written.
