@@ -2,7 +2,7 @@
 
 import pytest
 
-from tibzharuk.trim import look
+from tibzharuk.trim import cutadapt, look
 from tibzharuk.trim.arguments import Arguments
 from tibzharuk.trim.faults import Fault
 
@@ -42,3 +42,11 @@ def test_a_command_without_what_runs_it(monkeypatch):
     with pytest.raises(Fault) as caught:
         look.check_command(given, output)
     assert caught.value.line == "no program samtools (--expect-pairs)"
+
+
+def test_without_cutadapt(monkeypatch):
+    monkeypatch.setattr(cutadapt, "which", lambda name: None)
+    with pytest.raises(Fault) as caught:
+        cutadapt.Cutadapt(Arguments(f"{INPUT} --interleaved x --poly-g".split()), "x")
+    wanted = "no program cutadapt (--adapters, --poly-g, --cutadapt, ILLUMINACLIP)"
+    assert (caught.value.status, caught.value.line) == (1, wanted)

@@ -51,7 +51,7 @@ class Cutadapt:
         self.checks_names = arguments.checks_names
         self.sample = sample
         if not which("cutadapt"):
-            raise Fault(1, "no program cutadapt (--adapters, --cutadapt)")
+            raise Fault(1, "no program cutadapt (--adapters, --poly-g, --cutadapt, ILLUMINACLIP)")
         self.names: Dict[str, str] = {}     # the user's files, by the names of their pipes
         self.files: List[str] = []          # those of each side
         self.counts = self.printed = b""
