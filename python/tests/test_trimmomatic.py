@@ -140,6 +140,7 @@ def test_adapters(steps, cutadapt, others):
     ("-trimlog reads b p1 u1 p2 u2 CROP:9", 2, "-trimlog reads: this file holds reads"),
     ("-summary reads.gz b p1 u1 p2 u2 CROP:9", 2, "-summary reads.gz: this file holds reads"),
     ("--report packed b p1 u1 p2 u2 CROP:9", 2, "--report packed: this file holds reads"),
+    ("a b -baseout out/ CROP:9", 1, "-baseout out/ is a directory; the names need a beginning"),
     ("-basein x.fq p1 u1 p2 u2 CROP:9", 4, "-basein x.fq: no reverse file beside it"),
 ))
 def test_what_is_refused(line, status, start):

@@ -204,6 +204,8 @@ def base_in(forward: str) -> str:
 def base_out(base: str) -> List[str]:
     """The four outputs of -baseout: d/a.b.fq.gz gives d/a.b_1P.fq.gz and so on."""
     folder, name = os.path.split(base)
+    if name in ("", ".", ".."):
+        raise Fault(1, f"-baseout {base} is a directory; the names need a beginning, too")
     stem = stem_of(name)
     return [os.path.join(folder, f"{stem}_{each}{name[len(stem):]}")
             for each in ("1P", "1U", "2P", "2U")]
