@@ -31,7 +31,8 @@ class TestFasta(Files):
         packed = self.put("a.fa.gz", gzip.compress(b">x\nA"))
         assert fasta.read_fasta(packed) == [("x", "A")]
 
-    @pytest.mark.parametrize("one, other", (("AACGT", "ACGTT"), ("acNg", "cNgt"), ("", "")))
+    @pytest.mark.parametrize("one, other", (
+        ("AACGT", "ACGTT"), ("acNg", "cNgt"), ("", ""), ("ARYSWKMBDHVN", "NBDHVKMWSRYT")))
     def test_other_strand(self, one, other):
         assert fasta.other_strand(one) == other
 

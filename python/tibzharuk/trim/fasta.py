@@ -6,7 +6,8 @@ from typing import BinaryIO, List, NamedTuple, cast
 from .faults import Fault
 
 MOST_BYTES = 1 << 24
-OTHER_STRAND = str.maketrans("ACGTUacgtu", "TGCAAtgcaa")
+# Bases, and letters for several bases. S, W and N are the same on both strands.
+OTHER_STRAND = str.maketrans("ACGTURYKMBDHVacgturykmbdhv", "TGCAAYRMKVHDBtgcaayrmkvhdb")
 
 
 class Entry(NamedTuple):
