@@ -10,6 +10,7 @@ from tibzharuk.trim.faults import Fault
 from tibzharuk.trim.files import holds_reads
 from tibzharuk.trimmomatic import offset_of, translated
 
+X, Y1, Y2 = "ACGTACGTACGTACGTACGT", "AAAAACCCCCAAAAACCCCC", "GGGGGTTTTTGGGGGTTTTT"
 FILES = "a.gz b.gz p1 u1 p2 u2"
 OUT = ["--paired1=p1", "--unpaired1=u1", "--paired2=p2", "--unpaired2=u2"]
 IN = ["-1", "a.gz", "-2", "b.gz"]
@@ -20,9 +21,12 @@ def folder(tmp_path, monkeypatch):
     monkeypatch.chdir(tmp_path)
     monkeypatch.setattr(trimmomatic, "PLACES", (str(tmp_path / "package"), "$NOWHERE_/x"))
     (tmp_path / "package").mkdir()
-    (tmp_path / "package" / "known.fa").write_text(">PrefixPE/1\nAACC\n>PrefixPE/2\nGTTT\n")
-    (tmp_path / "own.fa").write_text(">x\nACGT\n>y/1\nAA\n>y/2\nCC\n")
-    (tmp_path / "half.fa").write_text(">PrefixPE/2\nAACC\n")
+    (tmp_path / "package" / "known.fa").write_text(
+        f">PrefixPE/1\n{3 * 'AACC'}\n>PrefixPE/2\n{3 * 'GTTT'}\n")
+    (tmp_path / "own.fa").write_text(f">x\n{X}\n>y/1\n{Y1}\n>y/2\n{Y2}\n")
+    (tmp_path / "half.fa").write_text(f">PrefixPE/2\n{Y2}\n")
+    (tmp_path / "short.fa").write_text(f">a\n{X[:16]}\n>b\n{X[:17]}\n")
+    (tmp_path / "shorter.fa").write_text(f">\n{X[:16]}\n>PrefixQ/1\n{X[:16]}\n")
     (tmp_path / "empty.fa").write_text(">x\n")
     (tmp_path / "star.fa").write_text(">x\nACGT*\n")
     (tmp_path / "list.fa").write_text("ACGT\n")
@@ -76,9 +80,11 @@ def test_lines(line, words):
     assert translated(line.split()).words == words
 
 
-ALONE = ("-a ACGT;min_overlap=18 -a AA;min_overlap=18 -A ACGT;min_overlap=18 "
-         "-A CC;min_overlap=18 -e 0.1")
-PAIR = "-a AAAC;min_overlap={0} -A GGTT;min_overlap={0} -e 0.1"
+ALONE = (f"-a {X};min_overlap=18 -a {Y1};min_overlap=18 -A {X};min_overlap=18 "
+         f"-A {Y2};min_overlap=18 -e 0.1")
+HALF = f"-A {Y2};min_overlap=18 "
+SHORT = f"-a {X[:17]};min_overlap=17 -A {X[:17]};min_overlap=17 -e 0.1"
+PAIR = f"-a {3 * 'AAAC'};min_overlap={{0}} -A {3 * 'GGTT'};min_overlap={{0}} -e 0.1"
 
 
 @pytest.mark.parametrize("steps, cutadapt, others", (
@@ -86,14 +92,16 @@ PAIR = "-a AAAC;min_overlap={0} -A GGTT;min_overlap={0} -e 0.1"
     ("ILLUMINACLIP:own.fa:2:30:9: CROP:9", ALONE.replace("18", "16"), ["CROP:9"]),
     ("ILLUMINACLIP:known.fa:2:30:10 CROP:9", PAIR.format(8), ["CROP:9"]),
     ("ILLUMINACLIP:known.fa:2:30:10:12:true CROP:9", PAIR.format(12), ["CROP:9"]),
+    ("ILLUMINACLIP:known.fa:2:30:10:13:true CROP:9", PAIR.format(12), ["CROP:9"]),
+    ("ILLUMINACLIP:short.fa:2:30:10", SHORT, ["MINLEN:1"]),
     ("ILLUMINACLIP:known.fa:2:30:10:1:true CROP:9", PAIR.format(5), ["CROP:9"]),
     ("CROP:9 MINLEN:25 ILLUMINACLIP:known.fa:2:40:15", PAIR.format(8), ["CROP:9", "MINLEN:25"]),
     ("ILLUMINACLIP:known.fa:2:40:15", PAIR.format(8), ["MINLEN:1"]),
-    ("ILLUMINACLIP:half.fa:2:30:10", "-A AACC;min_overlap=18 -e 0.1", ["MINLEN:1"]),
+    ("ILLUMINACLIP:half.fa:2:30:10", HALF + "-e 0.1", ["MINLEN:1"]),
     ("ILLUMINACLIP:half.fa:2:30:10 ILLUMINACLIP:known.fa:2:30:10",
-     "-A AACC;min_overlap=18 " + PAIR.format(8), ["MINLEN:1"]),
+     HALF + PAIR.format(8), ["MINLEN:1"]),
     ("--poly-g ILLUMINACLIP:half.fa:2:30:10 --cutadapt=-u4",
-     "-A AACC;min_overlap=18 -e 0.1 -u4", ["MINLEN:1"]),
+     HALF + "-e 0.1 -u4", ["MINLEN:1"]),
     ("CROP:9 --cutadapt -u4", "-u4", ["CROP:9"]),
 ))
 def test_adapters(steps, cutadapt, others):
@@ -204,6 +212,13 @@ def test_base_in(forward, reverse):
 def test_base_out(base, stem, ending):
     wanted = [f"{stem}_{each}{ending}" for each in ("1P", "1U", "2P", "2U")]
     assert trimmomatic.base_out(base) == wanted
+
+
+def test_adapters_that_are_too_short():      # as Trimmomatic 0.39 finds none of them
+    found = translated(f"-phred33 {FILES} ILLUMINACLIP:shorter.fa:2:30:10 CROP:9".split())
+    assert not [word for word in found.words if word.startswith("--cutadapt")]
+    assert found.notes[1].startswith("ILLUMINACLIP: too short to reach the score of the step")
+    assert found.notes[1].endswith(f": {X[:16]}, PrefixQ/1 of shorter.fa")
 
 
 MATES_KEPT = "; both mates of a pair that reads through are kept"

@@ -18,7 +18,7 @@ from typing import Dict, Iterator, List, NamedTuple, Optional, Sequence, Tuple
 
 from .trim.adapters import LETTERS, PALINDROME
 from .trim.arguments import EMPTY, Parser
-from .trim.fasta import other_strand, read_fasta
+from .trim.fasta import Entry, other_strand, read_fasta
 from .trim.faults import Fault
 from .trim.files import holds_reads
 from .trim.known_adapters import first_reads
@@ -33,6 +33,7 @@ ERRORS = "-e 0.1"
 # compares the mates as well; cutadapt, which doesn't, finds fewer than 5 bases mostly by chance.
 OF_PAIR = 8
 FEWEST = 5
+MATES_OF_PAIR = ("/1", "/2")
 SCORE = 0.6     # of a base that matches, in Trimmomatic's rule for a sequence alone
 WITH_VALUE = ("threads", "trimlog", "summary", "basein", "baseout")
 WITHOUT_VALUE = ("phred33", "phred64", "quiet", "validatePairs", "version")
@@ -285,36 +286,48 @@ def found_file(name: str) -> str:
     raise Fault(4, f"{CLIP}: cannot read {name}: it isn't there{where}{instead}")
 
 
-def adapters_of(name: str, alone: int, of_pair: int) -> List[str]:
-    """cutadapt's options for a file of adapters, as Trimmomatic reads it. So many bases of a
-    sequence alone are needed, and so many of the primers of a pair."""
+class Found(NamedTuple):
+    """The adapters of a file, as Trimmomatic reads it."""
+
+    options: List[str]      # of cutadapt
+    short: List[str]        # names of sequences that are too short to reach the score
+
+
+def adapters_of(name: str, fewest: int, of_pair: int) -> Found:
+    """Those of this file. So many bases of a sequence alone reach the score, of which cutadapt
+    needs one more, and so many of the primers of a pair are needed."""
     found: Dict[str, Dict[str, int]] = {"-a": {}, "-A": {}}
     primers: Dict[str, Dict[str, str]] = {}
+    alone: List[Entry] = []
     for each in read_fasta(name, CLIP):
         start, end = each.name[:-2], each.name[-2:]
         if not re.match(f"{LETTERS}+$", each.sequence, re.I):
             what = "a letter that is no base in" if each.sequence else "no sequence for"
             raise Fault(2, f"{CLIP}: {name} has {what} {each.name or 'an adapter'}")
-        if each.name.startswith(PALINDROME) and end in ("/1", "/2"):
+        if each.name.startswith(PALINDROME) and end in MATES_OF_PAIR:
             primers.setdefault(start, {})[end] = each.sequence
         else:
-            found["-a"].update({each.sequence: alone} if end != "/2" else {})
-            found["-A"].update({each.sequence: alone} if end != "/1" else {})
-    for both in primers.values():
-        for option, own, other in ("-a", "/1", "/2"), ("-A", "/2", "/1"):
-            if len(both) == 2:
-                found[option][other_strand(both[other])] = of_pair
-            elif own in both:       # Trimmomatic takes one without its mate as a sequence alone
-                found[option][both[own]] = alone
-    return [word for option, sequences in found.items() for sequence, bases in sequences.items()
-            for word in (option, f"{sequence};min_overlap={bases}")]
+            alone.append(each)
+    for start, both in primers.items():
+        if len(both) == 2:
+            found["-a"][other_strand(both["/2"])] = found["-A"][other_strand(both["/1"])] = of_pair
+        else:               # Trimmomatic takes one without its mate as a sequence alone
+            alone += [Entry(start + end, sequence) for end, sequence in both.items()]
+    short = [each for each in alone if len(each.sequence) < fewest]
+    for each in alone:
+        for option, other in ("-a", "/2"), ("-A", "/1"):
+            if each not in short and not each.name.endswith(other):
+                found[option][each.sequence] = fewest + 1
+    options = [word for option, sequences in found.items() for sequence, bases in sequences.items()
+               for word in (option, f"{sequence};min_overlap={min(bases, len(sequence))}")]
+    return Found(options, [each.name or each.sequence for each in short])
 
 
 class Clip(NamedTuple):
     """A step ILLUMINACLIP as it is done here."""
 
     file: str
-    options: List[str]      # of cutadapt
+    adapters: Found
     keeps_both: bool        # whether the step asks for both mates of a pair that reads through
 
 
@@ -324,12 +337,11 @@ def clipped(step: str) -> Clip:
     if not 5 <= len(given) <= 7 or not given[1] or not has_numbers:
         raise Fault(2, f"{step}: its form is {CLIP}:FILE:2:30:10 (and :8:true)")
     name = found_file(given[1])
-    alone = math.ceil(int(given[4]) / SCORE) + 1
     of_pair = int(given[5]) if given[5:] else OF_PAIR
-    options = adapters_of(name, alone, max(of_pair, FEWEST))
-    if not options:
+    adapters = adapters_of(name, math.ceil(int(given[4]) / SCORE), max(of_pair, FEWEST))
+    if not adapters.options and not adapters.short:
         raise Fault(2, f"{CLIP}: {name} has no adapters")
-    return Clip(name, options, given[6:] != [] and given[6].lower() == "true")
+    return Clip(name, adapters, given[6:] != [] and given[6].lower() == "true")
 
 
 def notes_on(clips: Sequence[Clip], first: str) -> List[str]:
@@ -340,9 +352,13 @@ def notes_on(clips: Sequence[Clip], first: str) -> List[str]:
     note = f"{CLIP}: the adapters of {files} are removed by cutadapt, not by Trimmomatic's rule"
     if not all(each.keeps_both for each in clips):
         note += "; both mates of a pair that reads through are kept"
-    is_first = name_of(first) == CLIP
-    return [note] if is_first else [
-        note, f"{CLIP} is done before all other steps, though it comes after {first}"]
+    notes = [note] + [
+        f"{CLIP}: too short to reach the score of the step, so never found, as by Trimmomatic: "
+        f"{', '.join(each.adapters.short)} of {each.file}"
+        for each in clips if each.adapters.short]
+    if name_of(first) != CLIP:
+        notes.append(f"{CLIP} is done before all other steps, though it comes after {first}")
+    return notes
 
 
 # The line.
@@ -358,7 +374,8 @@ def translated(line: Sequence[str]) -> Line:
     said += encoding.options
     clips = [clipped(step) for step in steps if name_of(step) == CLIP]
     others = [step for step in steps if name_of(step) != CLIP]
-    cutadapt = [word for each in clips for word in each.options] + [ERRORS] * bool(clips)
+    cutadapt = [word for each in clips for word in each.adapters.options]
+    cutadapt += [ERRORS] if cutadapt else []
     cutadapt += words.cutadapt
     said += [f"--cutadapt={' '.join(cutadapt)}"] if cutadapt else []
     notes = encoding.notes + notes_on(clips, steps[0])
