@@ -317,7 +317,7 @@ def adapters_of(name: str, fewest: int, of_pair: int) -> Found:
     for each in alone:
         for option, other in ("-a", "/2"), ("-A", "/1"):
             if each not in short and not each.name.endswith(other):
-                found[option][each.sequence] = fewest + 1
+                found[option].setdefault(each.sequence, fewest + 1)
     options = [word for option, sequences in found.items() for sequence, bases in sequences.items()
                for word in (option, f"{sequence};min_overlap={min(bases, len(sequence))}")]
     return Found(options, [each.name or each.sequence for each in short])
