@@ -202,7 +202,7 @@ a_whole_life() {
   sample_pages s1 s2 s3
   removed_bases s1 s2 s3
   [ "$(grep '^failed:' said)" = "$(shown_failure)" ] || fail "workflow/README.md shows '$(shown_failure)', but '$(grep '^failed:' said)' was said"
-  above_table | grep -q '<strong>s4</strong>: <samp>[^<]*reads/s4_L001_R2.fq.gz' || fail 'the page does not name s4 and its file above its tables'
+  above_table | grep '<strong>s4</strong>: <samp>[^<]*reads/s4_L001_R2.fq.gz' > /dev/null || fail 'the page does not name s4 and its file above its tables'
   [ -z "$(find results -name 's4*')" ] || fail "of s4 there is $(find results -name 's4*' | paste -sd' ')"
   made > before
   row="$1: a second call"
@@ -245,7 +245,7 @@ by_lane() {
   same_as_direct s2 s3 s4
   page_tells s2 s3 s4
   grep -qx 'failed: s1: lane L002: tibzharuk: cannot read reads/s1_L002_R2.fq.gz: unexpected end of file' said || fail "the lane is not named: $(grep '^failed' said)"
-  above_table | grep -q '<strong>s1</strong>: <samp>lane L002: [^<]*reads/s1_L002_R2.fq.gz' || fail 'the page does not name s1 and its lane above its tables'
+  above_table | grep '<strong>s1</strong>: <samp>lane L002: [^<]*reads/s1_L002_R2.fq.gz' > /dev/null || fail 'the page does not name s1 and its lane above its tables'
   [ -z "$(find results -name 's1*' ! -path 'results/lanes/*')" ] || fail 'there are outputs of s1'
   made > before
   row="$1: only that lane again"
@@ -259,7 +259,7 @@ by_lane() {
   removed_bases s1 s2 s3 s4
   lanes_apart
   made | grep -v /s1 | cmp - before || fail 'a sample that was trimmed was touched again'
-  if above_table | grep -qi failed; then fail 'the page still names a failed sample'; fi
+  if above_table | grep -i failed > /dev/null; then fail 'the page still names a failed sample'; fi
 }
 
 # refused LINE: the present settings or table are refused with that line, and nothing is made

@@ -34,7 +34,7 @@ COLUMNS: Dict[str, Tuple[str, str, Dict[str, Any]]] = {
     ),
     "megabases_before": (
         "Mb before",
-        "Megabases of both sides before the steps, without the adapters that cutadapt removed",
+        "Megabases of both sides before the steps, without adapters that were removed first",
         MEGABASES,
     ),
     "megabases_after": ("Mb after", "Megabases left of the reads that survive", MEGABASES),
