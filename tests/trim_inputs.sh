@@ -8,20 +8,6 @@ set -uo pipefail
 find_program
 . tests/trim/common.bash
 
-# warned LINES WORDS..: all outputs are made, and these lines are on standard error
-warned() {
-  local lines=$1 got
-  shift
-  rm -rf "$work/out"
-  mkdir "$work/out"
-  (cd "$work" && trimmed "$@") > "$work/printed" 2> "$work/told"
-  got=$?
-  [ "$got" -eq 0 ] || fail "status $got: $(cat "$work/told")"
-  [ "$(cat "$work/told")" = "$lines" ] || fail "it says '$(cat "$work/told")', not '$lines'"
-  [ -s "$work/printed" ] || fail 'no summary was printed'
-  no_rest
-}
-
 # may_be_cut NAME..: the warnings for these files
 may_be_cut() {
   printf 'tibzharuk: warning: %s may be cut: the end block of BGZF is missing (--need-end refuses such a file)\n' "$@"

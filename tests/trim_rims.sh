@@ -11,19 +11,6 @@ find_program
 . tests/trim/common.bash
 four=(--paired1 out/p1.fq --unpaired1 out/u1.fq --paired2 out/p2.fq --unpaired2 out/u2.fq)
 
-# warned LINE WORDS..: all outputs are made, with this warning
-warned() {
-  local line=$1 got
-  shift
-  rm -rf "$work/out"
-  mkdir "$work/out"
-  (cd "$work" && trimmed "$@") > "$work/printed" 2> "$work/told"
-  got=$?
-  [ "$got" -eq 0 ] || fail "status $got: $(cat "$work/told")"
-  [ "$(cat "$work/told")" = "tibzharuk: warning: $line" ] || fail "it says '$(cat "$work/told")', not '$line'"
-  no_rest
-}
-
 row='standard input'
 made -i - "${outputs[@]}" "${last[@]}" < i
 as_plain p1.fq u1.fq p2.fq u2.fq
@@ -53,10 +40,10 @@ made -1 data/v1 -2 data/v2 "${four[@]}" MINLEN:1
 row='Phred+64'
 printf '@a/1\nACGT\n+\nBCDh\n' > o1
 printf '@a/2\nACGA\n+\nhhhh\n' > o2
-warned 'the scores of data/o1 go up to 71, so its qualities are probably Phred+64: use --encoding illumina13' -1 data/o1 -2 data/o2 "${four[@]}" MINLEN:1
+warned 'tibzharuk: warning: the scores of data/o1 go up to 71, so its qualities are probably Phred+64: use --encoding illumina13' -1 data/o1 -2 data/o2 "${four[@]}" MINLEN:1
 made -1 data/o1 -2 data/o2 "${four[@]}" --encoding illumina13 MINLEN:1
 row='all pairs dropped'
-warned 'all pairs were dropped' "${both[@]}" "${four[@]}" MINLEN:1000
+warned 'tibzharuk: warning: all pairs were dropped' "${both[@]}" "${four[@]}" MINLEN:1000
 row='a directory as a prefix'
 for each in . .. out/. out/; do
   refused 1 "tibzharuk: --out $each is a directory; the names need a beginning, too" "${both[@]}" --out "$each" "${last[@]}"

@@ -85,6 +85,20 @@ made() {
   no_rest
 }
 
+# warned LINES WORDS..: all outputs are made, and these lines are on standard error
+warned() {
+  local lines=$1 got
+  shift
+  rm -rf "$work/out"
+  mkdir "$work/out"
+  (cd "$work" && trimmed "$@") > "$work/printed" 2> "$work/told"
+  got=$?
+  [ "$got" -eq 0 ] || fail "status $got: $(cat "$work/told")"
+  [ "$(cat "$work/told")" = "$lines" ] || fail "it says '$(cat "$work/told")', not '$lines'"
+  [ -s "$work/printed" ] || fail 'no summary was printed'
+  no_rest
+}
+
 # as_plain NAME..: these outputs are those of the program on plain files
 plain=$work/plain
 as_plain() {
