@@ -1,5 +1,5 @@
-use Rattle.fq_parts.proofs.PartLemmas.{pairs_are_joined, parts_trimmed_apart}
-use Rattle.fq_parts.proofs.parts_may_be_trimmed_apart.Goals as goal
+use Rattle.fq_laws.proofs.PartLemmas.{pairs_are_joined, parts_trimmed_apart}
+use Rattle.fq_laws.proofs.parts.parts_may_be_trimmed_apart.Goals as goal
 
 -- the pairs of the whole are those of the first part, and then those of the rest
 pub returns-clause-pairs : goal.returns-clause-pairs

@@ -1,9 +1,6 @@
-//! A sample may be cut in two and its parts trimmed apart.
-//!
-//! The function of this crate has no parameters and does nothing. Its contract is the law.
-#![tactic(auto)]
+//! The law that a sample may be cut in two and its parts trimmed apart.
 
-ghost use Rattle.fq_parts.specs.Parts.{PairsAreJoined, PartsAreTrimmedApart};
+ghost use Rattle.fq_laws.specs.Parts.{PairsAreJoined, PartsAreTrimmedApart};
 
 /// Inputs that are cut in two after a pair may be trimmed apart, whether they are two texts or an
 /// interleaved one.

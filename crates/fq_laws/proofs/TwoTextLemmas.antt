@@ -10,8 +10,8 @@ use Rattle.fq_pair.specs.Mates.{mates_in}
 use Rattle.fq_pair.specs.Pairing.{Pairs, pairs_of, belong, Stopped, Met, meeting, pair_front, with_pair}
 use Rattle.fq_pair.proofs.PairLaws.{records_of, from_pair_front, pairs_of-front, pairs_of-met, pairs_of-stopped, pairs_of-ended}
 use Rattle.fq_pair.proofs.FrontLemmas.{front_more}
-use Rattle.fq_parts.specs.Parts.{pairs_then}
-use Rattle.fq_parts.proofs.FrontLemmas.{front_after}
+use Rattle.fq_laws.specs.Parts.{pairs_then}
+use Rattle.fq_laws.proofs.FrontLemmas.{front_after}
 
 module _ (check : Bool) (e : Encoding) (more_f more_r : List (List ℕ)) where
   abbrev pairs_at : ℕ → List (List ℕ) → List (List ℕ) → Pairs

@@ -13,8 +13,8 @@ use Rattle.fq_pair.specs.Interleaved.{interleaved_pairs_of, meeting_after, inter
 use Rattle.fq_pair.proofs.PairLaws.{records_of, from_pair_front}
 use Rattle.fq_pair.proofs.InterleavedLaws.{interleaved_pairs_of-front, interleaved_pairs_of-met, interleaved_pairs_of-stopped, interleaved_pairs_of-ended}
 use Rattle.fq_pair.proofs.FrontLemmas.{front_more}
-use Rattle.fq_parts.specs.Parts.{pairs_then}
-use Rattle.fq_parts.proofs.FrontLemmas.{front_after}
+use Rattle.fq_laws.specs.Parts.{pairs_then}
+use Rattle.fq_laws.proofs.FrontLemmas.{front_after}
 
 module _ (check : Bool) (e : Encoding) (more : List (List ℕ)) where
   abbrev pairs_at : ℕ → List (List ℕ) → Pairs

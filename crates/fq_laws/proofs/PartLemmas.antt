@@ -13,9 +13,9 @@ use Rattle.fq_pair.proofs.OutputLaws.{texts_of-append}
 use Rattle.fq_read_tally.specs.Courses.{alone}
 use Rattle.fq_tally.specs.Tallies.{tally_of}
 use Rattle.fq_tally.proofs.PlusLaws.{tally_of-append}
-use Rattle.fq_parts.specs.Parts.{PairsAreJoined, PartsAreTrimmedApart}
-use Rattle.fq_parts.proofs.TwoTextLemmas.{parts_joined}
-use Rattle.fq_parts.proofs.InterleavedLemmas.{one_joined}
+use Rattle.fq_laws.specs.Parts.{PairsAreJoined, PartsAreTrimmedApart}
+use Rattle.fq_laws.proofs.TwoTextLemmas.{parts_joined}
+use Rattle.fq_laws.proofs.InterleavedLemmas.{one_joined}
 
 -- the pairs of inputs are those of a first part, and then those of the rest, numbered on
 pub pairs_are_joined : PairsAreJoined

@@ -14,7 +14,7 @@ use Rattle.fq_pair.specs.Forms.{TwoTexts, InterleavedText, pairs_in}
 use Rattle.fq_pair.specs.Outputs.{texts_of}
 use Rattle.fq_read_tally.specs.Courses.{alone}
 use Rattle.fq_tally.specs.Tallies.{tally_of}
-use Rattle.fq_parts.specs.Parts.{IsPart}
+use Rattle.fq_laws.specs.Parts.{IsPart}
 
 abbrev steps : List Step
 steps = Leading 3 ∷ []

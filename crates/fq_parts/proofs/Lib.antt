@@ -1,5 +1,0 @@
-pub mod FrontLemmas
-pub mod TwoTextLemmas
-pub mod InterleavedLemmas
-pub mod PartLemmas
-pub mod WorkedExamples
