@@ -9,8 +9,9 @@
 #   in docs/PROVED.md is in the code. What the proof of the program rests on is what its check said.
 # - What is made of the help and of the schema of a report is as packaging/made.py makes it.
 # - The version and its day are those of CHANGELOG.md everywhere (packaging/version.sh).
-# - README.md has at most 200 lines, and each time and size in it is one of bench/README.md. The
-#   counts of wrong bodies, rows and definitions are those of the tree, and documents name one kit.
+# - README.md has at most 160 lines, each time and size in it is one of bench/README.md, and its
+#   pictures are of this version. The counts of wrong bodies, rows and definitions are those of the
+#   tree, and documents name one kit.
 # - Each file, and each heading, that a document links to exists.
 # - Every line of a document, outside tables and code, is at most 100 columns wide (DOCUMENTS_WIDTH
 #   sets another width, 0 none), and so are comments, clauses, definitions and proofs in crates/. No
@@ -231,10 +232,10 @@ documents() {
 compare_numbers() {
   local number count rows
   count=$(wc -l < README.md)
-  [ "$count" -le 200 ] || fail "README.md has $count lines, over 200"
+  [ "$count" -le 160 ] || fail "README.md has $count lines, over 160"
   while IFS= read -r number; do
     grep -qwF -- "$number" bench/README.md || fail "README.md says $number, and bench/README.md doesn't"
-  done < <(sed -n '/^## Why another trimmer/,/^## /p' README.md | grep -oE '[0-9]+([.][0-9]+)+' | sort -u)
+  done < <(sed -n '/^## What others do/,/^## What is proved/p' README.md | grep -oE '[0-9]+([.][0-9]+)+' | sort -u)
   count=$(find crates -path '*/out' -prune -o -path '*/must-fail/*.edit' -print | wc -l)
   while IFS= read -r number; do
     [ "$number" -eq "$count" ] || fail "docs/GATE.md lists $number wrong bodies in must-fail/, and there are $count"
@@ -247,6 +248,20 @@ compare_numbers() {
   [ $(((rows + 5) / 10)) -eq $(((number + 5) / 10)) ] || fail "docs/ARCHITECTURE.md says some $number rows, and fq_rows has $rows"
   count=$(documents | xargs grep -ohE 'rattle-kit-[0-9a-z]+' | sort -u | wc -l)
   [ "$count" -le 1 ] || fail "documents name $count kits"
+}
+
+# The pictures are of the version of CHANGELOG.md.
+compare_pictures() {
+  local picture version said
+  version=$(sed -nE 's/^## ([0-9.]+).*/\1/p' CHANGELOG.md | head -n 1)
+  if ! command -v python3 > /dev/null; then
+    echo 'documents: the pictures: skipped: needs python3'
+    return
+  fi
+  for picture in docs/*.png; do
+    said=$(python3 packaging/picture_text.py "$picture")
+    [ "$said" = "fq_prog $version" ] || fail "$picture is of '$said', not of fq_prog $version (packaging/pictures.sh draws it)"
+  done
 }
 
 # docs/PROMISE.md says how many definitions its contracts rest on, to the nearest ten.
@@ -375,6 +390,7 @@ compare_proved
 compare_trusted
 call_library
 compare_numbers
+compare_pictures
 count_definitions
 follow_links
 if [ "$width" -gt 0 ]; then
