@@ -2,7 +2,7 @@
 """Makes the parts of files that follow from what fq_prog does, from the help of tibzharuk and from
 docs/report.schema.json: of the manual page of fq_prog, the completions, the description for CWL,
 docs/FORMAT.md and what reads reports. A part lies between the lines 'made by packaging/made.py: NAME'
-and 'end of NAME', which are comments of the file."""
+and 'end of NAME', which are comments of the file. docs/report.example.json is made as a whole."""
 
 import argparse
 import difflib
@@ -23,6 +23,7 @@ FILES = ['man/fq_prog.1', 'completions/fq_prog.bash', 'completions/fq_prog.fish'
          'completions/_fq_prog', 'completions/tibzharuk.bash', 'completions/tibzharuk.fish',
          'completions/_tibzharuk', 'workflow/cwl/tibzharuk.cwl', 'docs/FORMAT.md',
          'python/tibzharuk/report/reading.py']
+EXAMPLE_FILE = 'docs/report.example.json'
 PART = re.compile(r'(?ms)^([^\n]*made by packaging/made\.py: ([a-z-]+)[^\n]*\n)'
                   r'.*?^([^\n]*end of \2\b[^\n]*)$')
 
@@ -315,9 +316,8 @@ def laid_out(value: Any, room: int) -> List[str]:
     return ['{' + lines[0][1:], *lines[1:-1], lines[-1][:-1] + '}']
 
 
-def indented(lines: List[str]) -> List[str]:
-    """A block of code of a document."""
-    return ['', *(f'    {line}' for line in lines), '']
+def example_text(program: str) -> str:
+    return ''.join(f'{line}\n' for line in laid_out(example_report(program), 96))
 
 
 def tuple_of(name: str, words: Iterable[str]) -> List[str]:
@@ -358,7 +358,6 @@ def makers(program: str) -> Makers:
         'fields-of-reads': lambda: list(field_table(inner['reads']['properties'])),
         'lists-of-positions': lambda: list(field_table(inner['positions']['properties'])),
         'names-of-positions': lambda: tuple_of('POSITIONS', inner['positions']['properties']),
-        'example-of-a-report': lambda: indented(laid_out(example_report(program), 96)),
     }
 
 
@@ -375,13 +374,14 @@ def main() -> int:
     parser.add_argument('--check', action='store_true', help='change nothing, print each part that '
                         'differs, and end with status 1 if one does')
     arguments = parser.parse_args()
-    made = makers(str(arguments.program.resolve()))
+    program = str(arguments.program.resolve())
+    made = makers(program)
     used, different = set(), 0
-    for name in FILES:
+    for name in [*FILES, EXAMPLE_FILE]:
         path = TREE / name
-        text = path.read_text()
+        text = path.read_text() if path.exists() else ''
         used |= {found[2] for found in PART.finditer(text)}
-        new = remade(text, made)
+        new = example_text(program) if name == EXAMPLE_FILE else remade(text, made)
         if new != text and arguments.check:
             sys.stdout.writelines(difflib.unified_diff(
                 text.splitlines(True), new.splitlines(True), name, f'{name}, made', n=0))
