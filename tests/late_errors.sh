@@ -4,6 +4,7 @@
 # print no summary. It waits once for each output, in order, and for the report last, if the device
 # of the files is not a block device, and everywhere with --sync. On a disk without --sync it does
 # not wait. A kind of directory that the machine lacks is skipped.
+# tibzharuk trim waits for each of its outputs, too, before any of them gets its name.
 set -uo pipefail
 . "$(dirname "$0")/common.bash"
 
@@ -87,4 +88,16 @@ if [ -n "$disk" ]; then
 else
   echo "late_errors: skipped: no directory on a disk"
 fi
+
+row='tibzharuk trim'
+enter "${disk:-$other}"
+outputs=(p1 u1 p2 u2 log)
+for number in 1 2 3 4 5; do
+  echo old > p1
+  said=$(FAILED_SYNC=$number LD_PRELOAD="$room/fail_sync.so" "$tibzharuk" trim --program "$program" -1 f -2 r --paired1 p1 \
+    --unpaired1 u1 --paired2 p2 --unpaired2 u2 --trimlog log LEADING:3 2>&1)
+  status=$?
+  [ "$status: $said" = "4: tibzharuk: cannot write ${outputs[number - 1]}: Input/output error" ] || fail "wait $number: status $status, '$said'"
+  [ "$(ls -A) $(cat p1)" = $'f\ni\np1\nr old' ] || fail "wait $number leaves $(ls -A)"
+done
 finish ok
