@@ -18,7 +18,7 @@ trap clean_up EXIT
 . packaging/jobs.bash
 
 # Scripts that need no program, the longest first.
-early=(must_not_compile workflow_page needs builds scripts package pages wrong_bodies rehearsal)
+early=(must_not_compile workflow_page needs builds scripts package pages wrong_bodies rehearsal claims)
 # Scripts that take long begin first.
 first=(workflow_slurm workflow workflow_lanes)
 # Scripts that use the same directories of this tree, so each waits for the one before.

@@ -12,6 +12,12 @@ import re
 import sys
 from functools import cache
 from pathlib import Path
+from typing import Dict, Iterable, Optional, Set, Tuple
+
+# A file and a name, and what a file imports: each name with its file and its name there, and the file
+# of each alias.
+Place = Tuple[Path, str]
+Imports = Tuple[Dict[str, Place], Dict[str, Path]]
 
 WORD = r"[^\W\d][\w'-]*"
 IMPORT = re.compile(r"\buse Rattle\.([\w.]+?)(?:\.\{([^}]*)\}| as (\w+))")
@@ -19,30 +25,35 @@ HEAD = re.compile(rf"(?:abbrev |unfoldable )?(?:pub )?(data |record )?({WORD})\b
 CONSTRUCTOR = re.compile(rf"  (?:pub |\| )?({WORD}) :")
 
 
-def path_of(module):
+def path_of(module: str) -> Optional[Path]:
     """The file of a module such as fq_text.specs.Grammar, or None if no crate here has it."""
     path = Path("crates", *module.split(".")).with_suffix(".antt")
     return path if path.is_file() and "/specs/declared/" not in str(path) else None
 
 
-def imports_of(text):
-    """Each imported name, with its file and its name there, and the file of each alias."""
-    names, aliases = {}, {}
+def imports_of(text: str) -> Imports:
+    """What a file imports."""
+    names: Dict[str, Place] = {}
+    aliases: Dict[str, Path] = {}
     for module, listed, alias in IMPORT.findall(text):
         path = path_of(module)
-        if path and alias:
+        if path is None:
+            continue
+        if alias:
             aliases[alias] = path
-        for entry in listed.split(",") if path and listed else []:
+        for entry in listed.split(",") if listed else []:
             there, _, here = entry.strip().partition(" as ")
             names[here or there] = (path, there)
     return names, aliases
 
 
 @cache
-def definitions_of(path):
+def definitions_of(path: Path) -> Tuple[Dict[str, str], Dict[str, str], Imports]:
     """The text of each definition of a file, the definition of each name, and what is imported."""
     whole = path.read_text(encoding="utf-8")
-    texts, owners, name = {}, {}, None
+    texts: Dict[str, str] = {}
+    owners: Dict[str, str] = {}
+    name = None
     for line in whole.splitlines():
         if line.startswith(("use ", "pub use ", "--", "module ")):
             name = None
@@ -58,29 +69,32 @@ def definitions_of(path):
     return texts, owners, imports_of(whole)
 
 
-def named_in(text, names, aliases):
+def named_in(text: str, names: Dict[str, Place], aliases: Dict[str, Path]) -> Set[Place]:
     """The file and name of each definition that a text names."""
     whole = {(aliases[alias], word) for alias, word in re.findall(rf"\b(\w+)\.({WORD})", text) if alias in aliases}
     return whole | {names[word] for word in re.findall(WORD, text) if word in names}
 
 
-def contract_of(source, function, clause):
-    """The clauses of a function, or the one of this name."""
-    text = source.read_text(encoding="utf-8")
-    start = re.search(rf"\bfn {function}\b", text).start()
-    lines = [line for line in text[start : text.index("\n{", start)].splitlines() if "//" not in line]
-    clauses = re.split(r"\n(?=    (?:requires|ensures)\b)", "\n".join(lines))[1:]
-    return "\n".join(it for it in clauses if not clause or it.startswith(f"    ensures {clause} "))
+def contract_in(text: str, function: str, clause: str = "") -> str:
+    """The clauses of a function, or of `Type::method`, or the one of this name. Empty if there is none."""
+    owner, _, name = function.rpartition("::")
+    if owner:
+        text = "\n".join(re.findall(rf"(?ms)^(?:pub )?(?:impl|trait)\b[^\n]*\b{owner}\b.*?^}}", text))
+    found = re.search(rf"(?ms)^( *)[^\n/]*\bfn {name}\b.*?(?=^\1{{|;$)", text)
+    lines = [line for line in found[0].splitlines() if "//" not in line] if found else []
+    clauses = re.split(r"\n(?= *(?:requires|ensures)\b)", "\n".join(lines))[1:]
+    return "\n".join(it for it in clauses if not clause or re.match(rf" *ensures {clause} ", it))
 
 
-def reached_from(contracts):
+def reached_from(contracts: Iterable[str]) -> Set[Place]:
     """The file and name of each definition that a contract rests on."""
-    reached, ahead = set(), set()
+    reached: Set[Place] = set()
+    ahead: Set[Place] = set()
     for contract in contracts:
         file, _, function = contract.partition(":")
         function, _, clause = function.partition(".")
-        names, aliases = imports_of(Path(file).read_text(encoding="utf-8"))
-        ahead |= named_in(contract_of(Path(file), function, clause), names, aliases)
+        text = Path(file).read_text(encoding="utf-8")
+        ahead |= named_in(contract_in(text, function, clause), *imports_of(text))
     while ahead:
         path, word = ahead.pop()
         texts, owners, (names, aliases) = definitions_of(path)
@@ -95,7 +109,7 @@ def reached_from(contracts):
     return reached
 
 
-def main():
+def main() -> None:
     words = sys.argv[1:]
     reached = reached_from(word for word in words if word != "-v")
     print(len(reached), len({path for path, _ in reached}))
@@ -103,4 +117,5 @@ def main():
         print(*sorted(f"{path} {name}" for path, name in reached), sep="\n")
 
 
-main()
+if __name__ == "__main__":
+    main()
