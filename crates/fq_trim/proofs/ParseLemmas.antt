@@ -1,7 +1,8 @@
 -- The steps of arguments, one after the other.
-use Rattle.std.proofs.Common.{◌≡◌, ℕ, zero, suc, ◌+◌, ◌-◌, ◌<◌, ◌≤◌, true, List, [], ◌∷◌, ◌++◌, length, take, drop, get_or, set, map, is_ok, refl, ap, sym, ◌∙◌, add-one, arith, Result, Ok, Err, eqb, ltb}
-use Rattle.std.proofs.lemmas.Bool.{cond-false, ne_eqb, le-ltb}
+use Rattle.std.proofs.Common.{◌≡◌, ℕ, zero, suc, ◌+◌, ◌-◌, ◌<◌, ◌≤◌, true, List, [], ◌∷◌, ◌++◌, length, take, drop, get_or, set, map, is_ok, refl, ap, sym, ◌∙◌, arith, Result, Ok, Err}
+use Rattle.std.proofs.lemmas.Bool.{ne_eqb, le-ltb}
 use Rattle.std.proofs.lemmas.List.{append_assoc, append-nil, drop_all, drop_more, take_more_set}
+use Rattle.std.proofs.lemmas.Grind.{common_steps}
 use Rattle.fq_trim.specs.declared.step.Step.{Step}
 use Rattle.fq_trim.specs.declared.fault.StepFault.{StepFault}
 use Rattle.fq_trim.specs.declared.fault.StepFaultKind.{StepFaultKind}
@@ -26,40 +27,23 @@ module _ (words : List (List ℕ)) (held : List Step) (i : ℕ) (lt : i < length
   pub step_put : (step : Step) → i < length held → step_of (get_or words i []) ≡ Ok step →
       steps_from 1 words ≡ put_all (take (i + 1) (set held i step)) (steps_from (suc (i + 1))
       (drop (i + 1) words))
-  step_put step room is =
-      so_far
-      ∙ ap (put_all (take i held)) (next
-      ∙ ap (λ r. put_before (suc i) r (steps_from (suc (suc i)) (drop (i + 1) words))) is)
-      ∙ put_all-push (take i held) step (steps_from (suc (suc i)) (drop (i + 1) words))
-      ∙ ap (λ n. put_all (take i held ++ (step ∷ [])) (steps_from n (drop (i + 1) words)))
-      (ap suc (sym (add-one i)))
-      ∙ ap (λ steps. put_all steps (steps_from (suc (i + 1)) (drop (i + 1) words)))
-      (sym (take_more_set held i step room))
+  step_put step room is = grind (arith, common_steps, put_all, next, put_all-push, take_more_set)
 
   -- an argument that is no step, after arguments that are, is the fault of the list
   pub fault_found : (kind : StepFaultKind) → step_of (get_or words i []) ≡ Err kind →
       steps_from 1 words ≡ Err (record { place = i + 1; kind = kind })
-  fault_found kind is =
-      let fault : ℕ → Result (List Step) StepFault = λ n. Err (record { place = n; kind = kind }) in
-      so_far
-      ∙ ap (put_all (take i held)) (next
-      ∙ ap (λ r. put_before (suc i) r (steps_from (suc (suc i)) (drop (i + 1) words))) is)
-      ∙ ap fault (sym (add-one i))
+  fault_found kind is = grind (arith, common_steps, put_all, next)
 
 -- after the last argument
 pub all_held : (words : List (List ℕ)) (held : List Step) (i : ℕ) → length words ≤ i →
     steps_from 1 words ≡ put_all (take i held) (steps_from (suc i) (drop i words)) →
     steps_from 1 words ≡ Ok (take i held)
-all_held words held i le so_far = so_far
-    ∙ ap (λ left. put_all (take i held) (steps_from (suc i) left)) (drop_all i words le)
-    ∙ ap Ok (append-nil (take i held))
+all_held words held i le so_far = grind (arith, common_steps, put_all, drop_all, append-nil)
 
 -- 1 to 64 arguments
 pub steps_of_few : (words : List (List ℕ)) → 0 < length words → length words ≤ 64 →
     steps_of words ≡ steps_from 1 words
-steps_of_few words some few =
-    cond-false (eqb (length words) 0) _ _ (ne_eqb (length words) 0 (λ none. omega arith))
-    ∙ cond-false (ltb 64 (length words)) _ _ (le-ltb 64 (length words) few)
+steps_of_few words some few = grind (arith, common_steps, ne_eqb, le-ltb)
 
 -- Arguments that are all steps, and the first that is not.
 record Put (place : ℕ) (one : Result Step StepFaultKind) (rest : Result (List Step) StepFault)
@@ -123,27 +107,8 @@ later place word words fault good first =
 first_at : (place : ℕ) (words : List (List ℕ)) (fault : StepFault) →
     steps_from place words ≡ Err fault → FirstAt place words fault
 first_at place [] fault is = cc
-first_at place (word ∷ words) fault is = at_word (first_at (suc place) words fault) (step_of word)
-    refl (steps_from (suc place) words) refl is
-  where
-    at_word : (steps_from (suc place) words ≡ Err fault → FirstAt (suc place) words fault) →
-        (one : Result Step StepFaultKind) → step_of word ≡ one →
-        (rest : Result (List Step) StepFault) → steps_from (suc place) words ≡ rest →
-        put_before place one rest ≡ Err fault → FirstAt place (word ∷ words) fault
-    at_word deeper (Err kind) one_is rest rest_is is =
-        let same : place ≡ fault.place = cc in
-        let kinds : kind ≡ fault.kind = cc in
-        record {
-          index = 0;
-          within = omega arith;
-          at = omega arith;
-          found = one_is
-              ∙ ap Err kinds;
-          before = λ k lt. absurd (omega arith);
-        }
-    at_word deeper (Ok step) one_is (Ok others) rest_is is = cc
-    at_word deeper (Ok step) one_is (Err other) rest_is is =
-        later place word words fault (ap is_ok one_is) (deeper (rest_is ∙ is))
+first_at place (word ∷ words) fault is =
+    grind (arith, common_steps, FirstAt, later, is_ok, first_at (suc place) words fault)
 
 -- if a list of arguments gives a fault, it is that of the first faulty argument
 pub first_fault : (words : List (List ℕ)) (fault : StepFault) → steps_from 1 words ≡ Err fault →

@@ -1,16 +1,17 @@
 -- Indices and the tests that select them.
-use Rattle.std.proofs.Common.{◌≡◌, ℕ, zero, suc, ◌+◌, ◌-◌, ◌*◌, ◌<◌, ◌≤◌, ◌⊎◌, inl, inr, Bool, true, false, List, [], ◌∷◌, ◌++◌, length, take, drop, get_or, map, sum, max, refl, ap, sym, subst, ◌∙◌, arith, add-one, take-add, ⊎_elim, leb}
+use Rattle.std.proofs.Common.{◌≡◌, ℕ, zero, suc, ◌+◌, ◌-◌, ◌*◌, ◌<◌, ◌≤◌, ◌⊎◌, Bool, true, false, List, [], ◌∷◌, ◌++◌, length, take, drop, get_or, map, sum, max, refl, ap, sym, subst, ◌∙◌, arith, add-one, take-add, ⊎_elim, leb}
 use Rattle.std.specs.List.{list_any, list_all}
 use Rattle.std.proofs.lemmas.List.{append-nil, length-drop, drop_more, take_more, length-take, length-take-le, length-map, get_or-map, get_or-drop, get_or-take, take-map, take-take, take_all, drop-map, drop-take}
 use Rattle.std.proofs.lemmas.List.Folds.{list_any_at, list_all-append}
 use Rattle.std.proofs.lemmas.List.Sums.{sum_by-cons, sum_by_push}
-use Rattle.std.proofs.lemmas.Bool.{cond-true, cond-false, or_left, or_right, or_from, and_from, and_left, and_right, and_parts, le-leb, lt-leb, leb-true, cases_Bool, cases_lt}
+use Rattle.std.proofs.lemmas.Bool.{cond-true, cond-false, or_left, or_right, or_from, and_from, and_left, and_right, and_parts, le-leb, lt-leb, leb-true, cases_lt}
 use Rattle.fq_trim.specs.declared.step.Step.{Step}
 use Rattle.fq_trim.specs.declared.step.Step.TheVariants.{Leading, Trailing, SlidingWindow}
 use Rattle.fq_text.specs.declared.encoding.Encoding.{Encoding}
 use Rattle.fq_text.specs.Scores.{is_scored, value_of}
 use Rattle.fq_text.proofs.ScoreLemmas.{value_small}
 use Rattle.fq_trim.specs.Keeping.{scores, places, select, keeps, is_good_end, is_good_window, IsBetween, kept_of, kept}
+use Rattle.std.proofs.lemmas.Grind.{common_steps}
 
 -- `places a n` has n indices
 pub length-places : (a n : ℕ) → length (places a n) ≡ n
@@ -29,17 +30,7 @@ select_append : (test : ℕ → Bool) (j : ℕ) (xs ys : List ℕ) →
     select test j (xs ++ ys) ≡ select test j xs ++ select test (j + length xs) ys
 select_append test j [] ys = let e : j + 0 ≡ j = omega arith in rw e refl
 select_append test j (x ∷ xs) ys =
-    let e : j + suc (length xs) ≡ suc j + length xs = omega arith in
-    let rest = select_append test (suc j) xs ys
-    ∙ ap (λ n. select test (suc j) xs ++ select test n ys) (sym e) in
-    ⊎_elim
-    (λ is. cond-true (test j) _ _ is ∙ ap (λ zs. x ∷ zs) rest
-    ∙ ap (λ zs. zs ++ select test (j + suc (length xs)) ys)
-    (sym (cond-true (test j) (x ∷ select test (suc j) xs) (select test (suc j) xs) is)))
-    (λ is. cond-false (test j) _ _ is ∙ rest
-    ∙ ap (λ zs. zs ++ select test (j + suc (length xs)) ys)
-    (sym (cond-false (test j) (x ∷ select test (suc j) xs) (select test (suc j) xs) is)))
-    (cases_Bool (test j))
+    grind (arith, common_steps, select_append test (suc j) xs ys)
 
 select_all : (test : ℕ → Bool) (j : ℕ) (xs : List ℕ) →
     ((k : ℕ) → j ≤ k → k < j + length xs → test k ≡ true) → select test j xs ≡ xs
@@ -83,10 +74,7 @@ select_between test a n lo hi b =
 pub scores_at : (q : List ℕ) (a n : ℕ) → a + n ≤ length q →
     map (λ p. get_or q p 0) (places a n) ≡ take n (drop a q)
 scores_at q a zero le = refl
-scores_at q a (suc n) le =
-    ap (λ xs. get_or q a 0 ∷ xs) (scores_at q (suc a) n (omega arith))
-    ∙ sym (ap (take (suc n)) (drop_more q a 0 (omega arith)
-    ∙ ap (λ m. get_or q a 0 ∷ drop m q) (add-one a)))
+scores_at q a (suc n) le = grind (arith, common_steps, drop_more q a 0, scores_at q (suc a) n)
 
 -- one step of several, if it keeps the indices between two
 pub step_keeps : (step : Step) (steps : List Step) (q : List ℕ) (start stop lo hi : ℕ) →
@@ -95,9 +83,12 @@ pub step_keeps : (step : Step) (steps : List Step) (q : List ℕ) (start stop lo
     kept_of (step ∷ steps) q (places start (stop - start))
     ≡ kept_of steps q (places (start + lo) (hi - lo))
 step_keeps step steps q start stop lo hi le within b =
-    ap (λ xs. kept_of steps q (select (keeps step xs) 0 (places start (stop - start))))
-    (scores_at q start (stop - start) (omega arith))
-    ∙ ap (kept_of steps q) (select_between _ start (stop - start) lo hi b)
+    grind (
+      arith,
+      common_steps,
+      scores_at q start (stop - start),
+      select_between _ start (stop - start) lo hi b,
+    )
 
 -- one step alone, applied to all bases
 pub step_alone : (step : Step) (e : Encoding) (qual : List ℕ) (lo hi : ℕ) →
@@ -160,9 +151,7 @@ none_in t (x ∷ xs) none = or_from _ _ (lt-leb t x (none 0 (omega arith)))
 none_behind : (t : ℕ) (q : List ℕ) (k : ℕ) → ((j : ℕ) → k ≤ j → j < length q → get_or q j 0 < t) →
     list_any (leb t) (drop k q) ≡ false
 none_behind t q k none =
-    let len = length-drop k q in
-    none_in t (drop k q) (λ i lt. let is = get_or-drop k q i 0 in let low =
-    none (k + i) (omega arith) (omega arith) in omega arith)
+    grind (arith, common_steps, length-drop, none_in, get_or-drop)
 
 -- for any scores, TRAILING keeps the bases up to the last score of at least t
 pub trailing_between : (t : ℕ) (q : List ℕ) (hi : ℕ) → hi ≤ length q →
@@ -197,18 +186,14 @@ all_places test a (suc n) all = and_from _ _ (all a (omega arith) (omega arith))
 pub one_fails : (test : ℕ → Bool) (a n k : ℕ) → a ≤ k → k < a + n → test k ≡ false →
     list_all test (places a n) ≡ false
 one_fails test a zero k le lt bad = absurd (omega arith)
-one_fails test a (suc n) k le lt bad = ⊎_elim
-    (λ is. and_left _ _ (ap test is ∙ bad))
-    (λ above. and_right _ _ (one_fails test (suc a) n k (omega arith) (omega arith) bad))
-    (Rattle.std.proofs.lemmas.Bool.cases_eq a k)
+one_fails test a (suc n) k le lt bad =
+    grind (arith, common_steps, and_left, and_right, one_fails test (suc a) n k)
 
 any_places : (test : ℕ → Bool) (a n k : ℕ) → a ≤ k → k < a + n → test k ≡ true →
     list_any test (places a n) ≡ true
 any_places test a zero k le lt good = absurd (omega arith)
-any_places test a (suc n) k le lt good = ⊎_elim
-    (λ is. or_left _ _ (ap test is ∙ good))
-    (λ above. or_right _ _ (any_places test (suc a) n k (omega arith) (omega arith) good))
-    (Rattle.std.proofs.lemmas.Bool.cases_eq a k)
+any_places test a (suc n) k le lt good =
+    grind (arith, common_steps, or_left, or_right, any_places test (suc a) n k)
 
 none_places : (test : ℕ → Bool) (a n : ℕ) → ((k : ℕ) → a ≤ k → k < a + n → test k ≡ false) →
     list_any test (places a n) ≡ false
@@ -276,10 +261,7 @@ module _ (e : Encoding) (qual : List ℕ) where
       ((k : ℕ) → hi ≤ k → k < length qual → get_or (scores e qual) k 0 < t) →
       IsBetween (keeps (Trailing t) (scores e qual)) (length qual) 0 hi
   trailing_scores t hi within at low =
-      let len = length-scores in
-      subst (λ n. IsBetween (keeps (Trailing t) (scores e qual)) n 0 hi) len
-      (trailing_between t (scores e qual) hi (omega arith) at
-      (λ k from lt. low k from (omega arith)))
+      grind (arith, common_steps, length-scores, trailing_between t (scores e qual) hi)
 
   -- what a step keeps of a part of a read is what it keeps of that part of the scores
   pub part_between : (step : Step) (start stop lo hi : ℕ) → start ≤ stop → stop ≤ length qual →
@@ -287,12 +269,7 @@ module _ (e : Encoding) (qual : List ℕ) where
       (length (take (stop - start) (drop start qual))) lo hi →
       IsBetween (keeps step (take (stop - start) (drop start (scores e qual)))) (stop - start) lo hi
   part_between step start stop lo hi le within b =
-      let n : length (take (stop - start) (drop start qual)) ≡ stop - start =
-      length-take-le (stop - start) (drop start qual) (omega (arith, length-drop start qual)) in
-      subst (λ m. IsBetween (keeps step (take (stop - start) (drop start (scores e qual)))) m lo hi)
-      n
-      (subst (λ xs. IsBetween (keeps step xs) (length (take (stop - start) (drop start qual))) lo
-      hi) (scores_of_part start (stop - start)) b)
+      grind (arith, common_steps, length-take-le, length-drop, scores_of_part)
 
 -- Ends of windows.
 low_end : (w t : ℕ) (q : List ℕ) (k : ℕ) → get_or q k 0 < t → is_good_end w t q k ≡ false
@@ -306,9 +283,8 @@ bad_end w t q s k some within bad =
 
 good_end : (w t : ℕ) (q : List ℕ) (k : ℕ) → t ≤ get_or q k 0 →
     ((s : ℕ) → s + w ≤ k + 1 → w * t ≤ sum (take w (drop s q))) → is_good_end w t q k ≡ true
-good_end w t q k at good = and_from _ _ (le-leb t (get_or q k 0) at)
-    (all_places (is_good_window w t q) 0 (k + 2 - w)
-    (λ s le lt. le-leb (w * t) (sum (take w (drop s q))) (good s (omega arith))))
+good_end w t q k at good =
+    grind (arith, common_steps, and_from, le-leb, all_places)
 
 -- what a sliding window keeps, if the first bad window ends at index `good`
 pub window_kept : (w t : ℕ) (q : List ℕ) (good last : ℕ) → 0 < w → w ≤ length q → w ≤ good →
@@ -370,11 +346,7 @@ high_more t n m q first next = ap (list_all (leb t)) (take-add n m q)
 high_sum : (t : ℕ) (q : List ℕ) → list_all (leb t) q ≡ true → length q * t ≤ sum q
 high_sum t [] all = omega arith
 high_sum t (x ∷ xs) all =
-    let parts = and_parts (leb t x) (list_all (leb t) xs) all in
-    let first = leb-true t x parts.0 in
-    let rest = high_sum t xs parts.1 in
-    let is = sum_by-cons (λ x. x) x xs in
-    omega arith
+    grind (arith, common_steps, and_parts, leb-true, sum_by-cons, high_sum t xs)
 
 -- a window of high scores is good
 pub high_window : (w t front s : ℕ) (q : List ℕ) → front ≤ length q →
@@ -393,11 +365,7 @@ pub sum_small : (e : Encoding) (qual : List ℕ) → list_all (is_scored e) qual
     sum (scores e qual) ≤ 126 * length qual
 sum_small e [] all = omega arith
 sum_small e (b ∷ bs) all =
-    let parts = and_parts (is_scored e b) (list_all (is_scored e) bs) all in
-    let first = value_small e b parts.0 in
-    let rest = sum_small e bs parts.1 in
-    let is = sum_by-cons (λ x. x) (value_of e b) (scores e bs) in
-    omega arith
+    grind (arith, common_steps, and_parts, value_small, sum_by-cons, sum_small e bs)
 
 module _ (e : Encoding) (qual : List ℕ) where
   -- n scores in a row sum to at most 126 * n
@@ -464,36 +432,21 @@ module _ (e : Encoding) (qual : List ℕ) (w t score front from total : ℕ) (sc
   -- `total` is the sum of the window that ends at `from`
   pub from_sum : total ≡ sum (take w (drop (from - w) (scores e qual)))
   from_sum =
-      let size : from - (from - w) ≡ w = omega arith in
-      total_is ∙ ap sum (scores_of_part e qual (from - w) (from - (from - w)))
-      ∙ ap (λ n. sum (take n (drop (from - w) (scores e qual)))) size
+      grind (arith, common_steps, scores_of_part)
 
   -- a window up to there is good, or it is the first of all
   window_up_to : (s : ℕ) → s + w ≤ from → (w * score ≤ sum (take w (drop s (scores e qual))))
       ⊎ (from ≡ w)
-  window_up_to s le = ⊎_elim
-      (λ skips. let least = least_is in let len = length-scores e qual in let good =
-      high_window w t front s (scores e qual) (omega arith) high (omega arith) in
-      inl (omega arith))
-      (λ none. inr (omega arith))
-      (cases_lt w front)
+  window_up_to s le =
+      grind (arith, common_steps, least_is, length-scores, high_window)
 
   -- if this window is good, each window that ends at or before `from` is good
   pub from_good : w * score ≤ total → (s : ℕ) → s + w ≤ from →
       w * score ≤ sum (take w (drop s (scores e qual)))
-  from_good good s le = ⊎_elim
-      (λ is. is)
-      (λ first. let here = from_sum in let start : from - w ≡ s = omega arith in let is =
-      ap (λ n. sum (take w (drop n (scores e qual)))) start in omega arith)
-      (window_up_to s le)
+  from_good good s le =
+      grind (arith, common_steps, from_sum, window_up_to)
 
   -- if this window is bad, the first window of the read is bad: it is the same
   pub from_bad : total < w * score → sum (take w (drop 0 (scores e qual))) < w * score
   from_bad bad =
-      let q = scores e qual in
-      let here = from_sum in
-      ⊎_elim
-      (λ good. absurd (omega arith))
-      (λ first. let start : from - w ≡ 0 = omega arith in let is =
-      ap (λ n. sum (take w (drop n q))) start in omega arith)
-      (window_up_to (from - w) (omega arith))
+      grind (arith, common_steps, from_sum, window_up_to)

@@ -1,15 +1,16 @@
 -- Windows that are compared in a vector.
 use Rattle.std.proofs.Common.{◌≡◌, ℕ, suc, zero, ◌+◌, ◌-◌, ◌%◌, ◌*◌, ◌^◌, ◌<◌, ◌≤◌, Fits, w8, Bool, true, false, not, ◌&&◌, cond, ltb, leb, eqb, List, [], ◌∷◌, length, take, drop, get_or, map, min, sum, refl, sym, ap, ap₂, ◌∙◌, arith, replicate, take-add, ⊎_elim}
 use Rattle.std.specs.List.{prefix_len, list_all}
-use Rattle.std.proofs.lemmas.Bool.{cases_Bool, cond-true, cond-false, ltb-true, ltb-false, lt-leb, le-leb, and_left, and_right, and_from, eq-eqb, ne_eqb, cases_eq, cases_lt}
+use Rattle.std.proofs.lemmas.Bool.{ltb-true, ltb-false, lt-leb, le-leb, and_left, and_right, and_from, eq-eqb, ne_eqb, cases_eq, cases_lt}
 use Rattle.std.proofs.lemmas.List.{length-map, length-drop, length-take-le, get_or-map, get_or-drop, take-map, drop-map, drop-drop, take_all, take_more}
 use Rattle.std.proofs.lemmas.List.Folds.{list_all-append}
 use Rattle.std.proofs.lemmas.List.Sums.{sum_by_push}
 use Rattle.std.proofs.lemmas.Simd.{get_or-chunk, get_or-zip2, run_in_chunk_le, run_in_chunk_fails, run_in_chunk_stops}
+use Rattle.std.proofs.lemmas.Grind.{common_steps}
 use Rattle.fq_trim.specs.Windows.{distances, IsGoodStop}
 use Rattle.fq_trim.proofs.PlaceLemmas.{high_window}
 use Rattle.fq_text.proofs.VectorLemmas.{flag, mask_of}
-use native.Mathlib.Nat.{mod-eq_of_lt, one-le-pow, two-pow-succ}
+use native.Mathlib.Nat.{one-le-pow, two-pow-succ}
 use lib.Lanes.{Each1, zip2, sel_l, mask_l, chunk, top}
 
 -- A vector with 255 at each index for which a comparison holds, and 0 at the others, chooses
@@ -20,33 +21,12 @@ chosen false x y = refl
 
 -- the larger of two bytes minus one of them
 less_one : (x o : ℕ) → Fits w8 x → Fits w8 o → (cond (ltb x o) o x + (256 - o)) % 256 ≡ x - o
-less_one x o small off =
-    let fx = small.fits in
-    let fo = off.fits in
-    ⊎_elim
-    (λ is.
-    let lt = ltb-true x o is in
-    let whole : o + (256 - o) ≡ 256 = omega arith in
-    ap (λ v. (v + (256 - o)) % 256) (cond-true (ltb x o) o x is) ∙ ap (λ v. v % 256) whole
-    ∙ omega arith)
-    (λ is. let le = ltb-false x o is in ap (λ v. (v + (256 - o)) % 256)
-    (cond-false (ltb x o) o x is) ∙ omega arith)
-    (cases_Bool (ltb x o))
+less_one x o small off = grind (arith, common_steps, ltb-true, ltb-false)
 
 -- a byte plus the smaller of another byte and what is left of 255
 plus_one : (x y : ℕ) → Fits w8 x → Fits w8 y →
     (x + cond (ltb y (255 - x)) y (255 - x)) % 256 ≡ min 255 (x + y)
-plus_one x y small other =
-    let fx = small.fits in
-    let fy = other.fits in
-    ⊎_elim
-    (λ is. let lt = ltb-true y (255 - x) is in
-    ap (λ v. (x + v) % 256) (cond-true (ltb y (255 - x)) y (255 - x) is)
-    ∙ mod-eq_of_lt (omega arith) ∙ omega arith)
-    (λ is. let le = ltb-false y (255 - x) is in
-    ap (λ v. (x + v) % 256) (cond-false (ltb y (255 - x)) y (255 - x) is)
-    ∙ mod-eq_of_lt (omega arith) ∙ omega arith)
-    (cases_Bool (ltb y (255 - x)))
+plus_one x y small other = grind (arith, common_steps, ltb-true, ltb-false)
 
 -- each byte minus the same number
 pub each_less : (v : List ℕ) (o n : ℕ) → length v ≡ n → Each1 (Fits w8) v → Fits w8 o →
@@ -56,8 +36,7 @@ pub each_less : (v : List ℕ) (o n : ℕ) → length v ≡ n → Each1 (Fits w8
 each_less [] o n long fits off = refl
 each_less (x ∷ xs) o zero long fits off = absurd (omega arith)
 each_less (x ∷ xs) o (suc n) long fits off =
-    ap₂ (λ y ys. y ∷ ys) (ap (λ v. (v + (256 - o)) % 256) (chosen (ltb x o) o x)
-    ∙ less_one x o fits.0 off) (each_less xs o n (omega arith) fits.1 off)
+    grind (arith, common_steps, chosen, less_one, each_less xs o n)
 
 -- the pair of bytes at an index of two vectors
 pub each_plus : (v u : List ℕ) → length v ≡ length u → Each1 (Fits w8) v → Each1 (Fits w8) u →
@@ -68,37 +47,20 @@ each_plus [] [] long fits others = refl
 each_plus [] (y ∷ ys) long fits others = refl
 each_plus (x ∷ xs) [] long fits others = absurd (omega arith)
 each_plus (x ∷ xs) (y ∷ ys) long fits others =
-    ap₂ (λ z zs. z ∷ zs) (ap (λ v. (x + v) % 256) (chosen (ltb y (255 - x)) y (255 - x))
-    ∙ plus_one x y fits.0 others.0) (each_plus xs ys (omega arith) fits.1 others.1)
+    grind (arith, common_steps, chosen, plus_one, each_plus xs ys)
 
 -- the lower of each two bytes
 pub each_lower : (v u : List ℕ) → sel_l (map (top 7) (zip2 (λ a b. cond (ltb a b) 255 0) v u)) v u
     ≡ zip2 min v u
 each_lower [] u = refl
 each_lower (x ∷ xs) [] = refl
-each_lower (x ∷ xs) (y ∷ ys) = ap₂ (λ z zs. z ∷ zs) (chosen (ltb x y) x y ∙ lower x y)
-    (each_lower xs ys)
-  where
-    lower : (x y : ℕ) → cond (ltb x y) x y ≡ min x y
-    lower x y = ⊎_elim
-        (λ is. let lt = ltb-true x y is in cond-true (ltb x y) x y is ∙ omega arith)
-        (λ is. let le = ltb-false x y is in cond-false (ltb x y) x y is ∙ omega arith)
-        (cases_Bool (ltb x y))
+each_lower (x ∷ xs) (y ∷ ys) =
+    grind (arith, common_steps, chosen, ltb-true, ltb-false, each_lower xs ys)
 
 -- The lower of two bytes has a high score exactly if both have.
 both_high : (score o x y : ℕ) → leb score (min x y - o) ≡ leb score (x - o) && leb score (y - o)
-both_high score o x y = ⊎_elim
-    (λ (low : min x y - o < score). lt-leb score (min x y - o) low ∙ ⊎_elim
-    (λ (left : x < y). sym (and_left (leb score (x - o)) (leb score (y - o)) (lt-leb score (x - o)
-    (omega arith))))
-    (λ (right : y ≤ x). sym (and_right (leb score (x - o)) (leb score (y - o)) (lt-leb score (y - o)
-    (omega arith))))
-    (cases_lt x y))
-    (λ (high : score ≤ min x y - o).
-    le-leb score (min x y - o) high
-    ∙ sym (and_from (leb score (x - o)) (leb score (y - o)) (le-leb score (x - o) (omega arith))
-    (le-leb score (y - o) (omega arith))))
-    (cases_lt (min x y - o) score)
+both_high score o x y =
+    grind (arith, common_steps, lt-leb, and_left, and_right, cases_lt, le-leb, and_from)
 
 in_pairs : (a b c d : Bool) → ((a && b) && (c && d)) ≡ ((a && c) && (b && d))
 in_pairs true true c d = refl
@@ -113,9 +75,7 @@ all_both_high score o [] [] long = refl
 all_both_high score o [] (y ∷ ys) long = absurd (omega arith)
 all_both_high score o (x ∷ xs) [] long = absurd (omega arith)
 all_both_high score o (x ∷ xs) (y ∷ ys) long =
-    ap₂ (λ a b. a && b) (both_high score o x y) (all_both_high score o xs ys (omega arith))
-    ∙ in_pairs (leb score (x - o)) (leb score (y - o)) (list_all (leb score) (distances o xs))
-    (list_all (leb score) (distances o ys))
+    grind (arith, common_steps, both_high, in_pairs, all_both_high score o xs ys)
 
 -- so of 32 bytes, only the lower of two that are 16 apart is compared
 pub all_high_by_lower : (offset score : ℕ) (qual : List ℕ) {lower scores : List ℕ} →
@@ -165,11 +125,7 @@ module _ (sums : List ℕ) (least r : ℕ)
 -- Whether each byte of a vector passes, by the mask of those that do: it has one bit per byte.
 each_bit : (b : Bool) (m full : ℕ) → 0 < full →
     eqb (cond b 1 0 + 2 * m) (2 * full - 1) ≡ b && eqb m (full - 1)
-each_bit true m full some = ⊎_elim
-    (λ is. eq-eqb (1 + 2 * m) (2 * full - 1) (omega arith) ∙ sym (eq-eqb m (full - 1) is))
-    (λ other. ne_eqb (1 + 2 * m) (2 * full - 1) (λ e. other (omega arith))
-    ∙ sym (ne_eqb m (full - 1) other))
-    (cases_eq m (full - 1))
+each_bit true m full some = grind (arith, common_steps, eq-eqb, ne_eqb, cases_eq)
 each_bit false m full some = ne_eqb (0 + 2 * m) (2 * full - 1) (λ e. omega arith)
 
 all_set : (p : ℕ → Bool) (v : List ℕ) → eqb (mask_l (map p v)) (2 ^ length v - 1) ≡ list_all p v
@@ -184,18 +140,12 @@ all_set p (x ∷ xs) =
 -- all 16 bytes of a vector pass a test exactly if the mask has all 16 bits
 pub all_pass : (p : ℕ → Bool) (v : List ℕ) {z : List ℕ} → length v ≡ 16 →
     z ≡ map (λ x. flag (p x)) v → eqb (mask_l (map (top 7) z) % 2 ^ 64) 65535 ≡ list_all p v
-all_pass p v long same =
-    let all : 65535 ≡ 2 ^ length v - 1 = ap (λ n. 2 ^ n - 1) (sym long) in
-    ap₂ eqb (mask_of p v (omega arith) same) all ∙ all_set p v
+all_pass p v long same = grind (arith, common_steps, mask_of p v, all_set p v)
 
 -- the sum of a part with one more score
 one_more : (q : List ℕ) (i k : ℕ) → k + i < length q →
     sum (take (i + 1) (drop k q)) ≡ sum (take i (drop k q)) + get_or q (k + i) 0
-one_more q i k lt =
-    let rest = drop k q in
-    ap sum (take_more rest i 0 (omega (arith, length-drop k q)))
-    ∙ sum_by_push (λ x. x) (take i rest) (get_or rest i 0)
-    ∙ ap (λ v. sum (take i rest) + v) (get_or-drop k q i 0)
+one_more q i k lt = grind (arith, common_steps, take_more, length-drop, sum_by_push, get_or-drop)
 
 -- so is each sum of a vector, saturated at 255
 pub lane_more : (offset i k : ℕ) (qual sums scores : List ℕ) → length sums ≡ 32 →
@@ -231,11 +181,7 @@ window_behind : (offset start k w : ℕ) (qual : List ℕ) →
     sum (take w (drop k (distances offset (behind qual start))))
     ≡ sum (take w (drop (start + k) (distances offset qual)))
 window_behind offset start k w qual =
-    ap (λ xs. sum (take w (drop k (distances offset xs))))
-    (take_all (length qual - start) (drop start qual) (omega (arith, length-drop start qual)))
-    ∙ ap (λ xs. sum (take w (drop k xs))) (sym (drop-map (λ byte. byte - offset) start qual))
-    ∙ ap (λ xs. sum (take w xs)) (drop-drop k start (distances offset qual)
-    ∙ ap (λ n. drop n (distances offset qual)) (omega arith))
+    grind (arith, common_steps, take_all, length-drop, drop-map, drop-drop)
 
 -- windows of scores that are all high, after others that are good
 pub good_over_high : (offset w score least start : ℕ) (qual : List ℕ) → least ≡ w * score →
@@ -292,16 +238,4 @@ module _ (offset w least start good : ℕ) (qual sums : List ℕ) (small : least
   -- the window after the good ones is bad: it ends in the read
   pub stops_there : 0 < w → start + good + w ≤ length qual → good < 32 →
       get_or sums good 0 < least → IsGoodStop w least (distances offset qual) (start + good + w - 1)
-  stops_there some fits lt low =
-      let len = length-map qual (λ (byte : ℕ). byte - offset) in
-      record {
-        within = omega arith;
-        some = omega arith;
-        good = λ s le. good_up_to s (omega arith);
-        bad = λ within.
-            let is : sum (take w (drop (start + good + w - 1 + 1 - w) (distances offset qual)))
-            ≡ sum (take w (drop (start + good) (distances offset qual))) =
-            ap (λ n. sum (take w (drop n (distances offset qual)))) (omega arith) in
-            let low_there = bad_there lt low in
-            omega arith;
-      }
+  stops_there some fits lt low = grind (arith, common_steps, length-map, good_up_to, bad_there)

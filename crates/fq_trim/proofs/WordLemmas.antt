@@ -1,5 +1,5 @@
 -- The pieces of an argument, and the numbers that they write.
-use Rattle.std.proofs.Common.{◌≡◌, ℕ, ◌+◌, ◌-◌, ◌*◌, ◌<◌, ◌≤◌, Bool, true, List, [], ◌∷◌, length, fold, Result, Ok, Err, Option, Some, None, is_some, not, arith, rules, leb, eqb}
+use Rattle.std.proofs.Common.{◌≡◌, ℕ, ◌+◌, ◌-◌, ◌*◌, ◌<◌, ◌≤◌, true, List, [], ◌∷◌, length, fold, Result, Ok, Err, Option, Some, None, is_some, not, arith, rules, leb, eqb}
 use Rattle.std.specs.Char.{is_ascii_digit}
 use Rattle.std.specs.List.{list_all, position_or_len}
 use Rattle.std.specs.Str.Parse.{ParsesUnsigned}
@@ -8,6 +8,7 @@ use Rattle.std.proofs.lemmas.List.Elements.{All-from_get_or}
 use Rattle.std.proofs.lemmas.List.Splits.{slice_split_none, length-slice_split}
 use Rattle.std.proofs.lemmas.List.Sums.{fails_before_first}
 use Rattle.std.proofs.lemmas.Str.Parse.{IsDigitsTest, FoldsDigits, IsNumeralModel, numerals_by_fold, digits_value_short, parse_gives}
+use Rattle.std.proofs.lemmas.Grind.{common_steps}
 use denote.Ref.{Bor}
 use Rattle.fq_trim.specs.declared.fault.StepFaultKind.TheVariants.{WrongCount}
 use Rattle.fq_trim.specs.Words.{pieces, pieces_in, is_number, number_of, numbers_of}
@@ -16,9 +17,7 @@ use Rattle.fq_trim.specs.Words.{pieces, pieces_in, is_number, number_of, numbers
 pub pieces_none : (word : List ℕ) → position_or_len (λ b. eqb b 58) word ≡ length word →
     pieces word ≡ word ∷ []
 pieces_none word none =
-    slice_split_none (λ b. eqb b 58) word
-    (All-from_get_or (λ b. eqb b 58 ≡ Bool.false) word 0
-    (λ i lt. fails_before_first (λ b. eqb b 58) word i 0 (omega arith)))
+    grind (arith, common_steps, slice_split_none, All-from_get_or, fails_before_first)
 
 -- an argument has a piece
 pieces_some : (word : List ℕ) → 0 < length (pieces word)
@@ -52,10 +51,7 @@ number_small piece is =
 pub number_read : {E : Type 0} (piece : List ℕ) (r : Result ℕ E) → ParsesUnsigned 32 10 piece r →
     is_number piece ≡ true → r ≡ Ok (number_of piece)
 number_read piece r h is =
-    let parts = and_parts _ (list_all is_ascii_digit piece) is in
-    let some = leb-true 1 (length piece) (and_parts (leb 1 (length piece)) _ parts.0).0 in
-    let small = number_small piece is in
-    parse_gives decimal 32 piece r h parts.1 some (omega arith)
+    grind (arith, common_steps, and_parts, leb-true, number_small, parse_gives, decimal)
 
 -- more or fewer pieces than the kind takes
 pub wrong_count : (smallest : List ℕ) (numbers : List (List ℕ)) →
