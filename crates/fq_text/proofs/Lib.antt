@@ -7,7 +7,6 @@ pub mod GoLemmas
 pub mod GrammarLemmas
 pub mod PartLemmas
 pub mod LawfulLemmas
-pub mod SourceLemmas
 pub mod ScoreLemmas
 pub mod WrittenLemmas
 pub mod UnwrappedLemmas

@@ -1,10 +1,9 @@
 -- What was written reads back.
-use Rattle.std.proofs.Common.{◌≡◌, ℕ, ◌+◌, ◌<◌, ◌≤◌, Bool, true, false, not, ◌&&◌, eqb, Option, Some, None, suc, List, [], ◌∷◌, ◌++◌, length, map, refl, ap, sym, ◌∙◌, arith, append_assoc, ⊎_elim}
+use Rattle.std.proofs.Common.{◌≡◌, ℕ, ◌+◌, ◌<◌, ◌≤◌, Bool, true, false, not, eqb, Option, Some, None, suc, List, [], ◌∷◌, ◌++◌, length, map, refl, ap, sym, ◌∙◌, arith, append_assoc, ⊎_elim}
 use Rattle.std.specs.List.{list_all}
 use Rattle.std.proofs.lemmas.Bool.{cond-false, and_parts, and_from, not-true, not_from_false, not_from_true, le-ltb, le-leb, leb-true, ne_eqb}
 use Rattle.fq_text.specs.declared.encoding.Encoding.{Encoding}
 use Rattle.std.proofs.lemmas.List.{length-map}
-use Rattle.std.proofs.lemmas.List.Folds.{list_all-append}
 use Rattle.fq_text.specs.Scores.{lowest, is_scored, recoded}
 use Rattle.fq_text.specs.Lines.{pieces, before_first_piece, without_cr, lines}
 use Rattle.fq_text.specs.Grammar.{limit, is_base, IsLawful, Read, Found, front, begins_with, title_fault, sequence_fault, plus_fault, quality_fault}
@@ -15,10 +14,12 @@ use Rattle.fq_text.proofs.ScoreLemmas.{low_base, all_recoded_scored}
 use Rattle.fq_text.proofs.RecordsLemmas.{room_enough}
 use Rattle.fq_text.proofs.GrammarLemmas.{title_goes, sequence_goes, sequence_ends, plus_goes, quality_goes, quality_ends}
 
-abbrev not_lf : ℕ → Bool
+-- a byte that ends no line
+abbrev pub not_lf : ℕ → Bool
 not_lf b = not (eqb b 10)
 
-pieces_line : (l ys : List ℕ) → list_all not_lf l ≡ true → pieces (l ++ 10 ∷ ys) ≡ l ∷ pieces ys
+-- a line before the first LF is the first piece
+pub pieces_line : (l ys : List ℕ) → list_all not_lf l ≡ true → pieces (l ++ 10 ∷ ys) ≡ l ∷ pieces ys
 pieces_line [] ys clean = refl
 pieces_line (x ∷ xs) ys clean = let parts = and_parts _ _ clean in
     cond-false (eqb x 10) _ _ (not-true _ parts.0)
@@ -70,20 +71,6 @@ pub ends_in_lf : (l : List ℕ) → list_all not_lf l ≡ true → without_cr l 
 ends_in_lf l clean plain ys = ap lines (append_assoc l (10 ∷ []) ys)
     ∙ ap (map without_cr) (pieces_line l ys clean) ∙ ap (λ m. m ∷ lines ys) plain
 
-without_last_cr : (l : List ℕ) → without_cr (l ++ 13 ∷ []) ≡ l
-without_last_cr [] = refl
-without_last_cr (b ∷ []) = refl
-without_last_cr (b ∷ c ∷ bs) = ap (λ xs. b ∷ xs) (without_last_cr (c ∷ bs))
-
--- bytes without an LF are one line if CR and LF follow
-pub ends_in_cr_lf : (l : List ℕ) → list_all not_lf l ≡ true → Ends (13 ∷ 10 ∷ []) l
-ends_in_cr_lf l clean ys =
-    let all : list_all not_lf (l ++ 13 ∷ []) ≡ true = list_all-append not_lf l (13 ∷ [])
-    ∙ ap (λ b. b && true) clean in
-    ap lines (append_assoc l (13 ∷ 10 ∷ []) ys ∙ sym (append_assoc l (13 ∷ []) (10 ∷ ys)))
-    ∙ ap (map without_cr) (pieces_line (l ++ 13 ∷ []) ys all)
-    ∙ ap (λ m. m ∷ lines ys) (without_last_cr l)
-
 -- a record as four lines with this line end, these bytes after the `+`, and a text after them
 abbrev pub four : List ℕ → List ℕ → Read → List ℕ → List ℕ
 four end again r text =
@@ -100,7 +87,8 @@ pub record AreItsLines (end again : List ℕ) (r : Read) : Type 0 where
   -- the plus line has no fault
   pub same : plus_fault r.title (43 ∷ again) ≡ None
 
-four_lines : (end again : List ℕ) (r : Read) (text : List ℕ) → AreItsLines end again r →
+-- the lines of such a text
+pub four_lines : (end again : List ℕ) (r : Read) (text : List ℕ) → AreItsLines end again r →
     lines (four end again r text) ≡ (64 ∷ r.title) ∷ r.seq ∷ (43 ∷ again) ∷ r.qual ∷ lines text
 four_lines end again r text p =
     let qual = ap (λ ls. (43 ∷ again) ∷ ls) (p.qual text) in
@@ -144,7 +132,8 @@ sound_seq seq fits bases plain =
     ∙ cond-false _ _ _ (le-ltb limit (0 + length seq) (omega arith))
     ∙ cond-false _ _ _ (not_from_true _ bases)
 
-sound_qual : (e : Encoding) (bases : ℕ) (qual : List ℕ) → bases ≤ limit → length qual ≡ bases →
+-- quality bytes with scores, as many as bases, have no fault
+pub sound_qual : (e : Encoding) (bases : ℕ) (qual : List ℕ) → bases ≤ limit → length qual ≡ bases →
     list_all (is_scored e) qual ≡ true → quality_fault e bases 0 qual ≡ None
 sound_qual e bases qual fits same scores =
     cond-false _ _ _ (le-ltb limit (length qual) (omega arith))
@@ -152,7 +141,7 @@ sound_qual e bases qual fits same scores =
     ∙ cond-false _ _ _ (not_from_true _ scores)
 
 -- the way to the quality
-to_quality : (end again : List ℕ) (r : Read) (ls : List (List ℕ)) → AreItsLines end again r →
+pub to_quality : (end again : List ℕ) (r : Read) (ls : List (List ℕ)) → AreItsLines end again r →
     front r.encoding ((64 ∷ r.title) ∷ r.seq ∷ (43 ∷ again) ∷ ls)
     ≡ in_quality r.encoding r.title r.seq [] ls
 to_quality end again r ls p =
@@ -208,19 +197,6 @@ stands_before r text lawful plain =
       then = refl;
     })
     (Rattle.std.proofs.lemmas.Bool.cases_eq (length r.seq) 0)
-
--- four lines that are a record with bases are the record at the front, whatever lines follow
-pub found_first : (end again : List ℕ) (r : Read) (ls : List (List ℕ)) → AreItsLines end again r →
-    0 < length r.seq →
-    front r.encoding (lines (four end again r []) ++ ls) ≡ Found r ls
-found_first end again r ls p some =
-    let lawful = p.lawful in
-    let same = lawful.same_len in
-    ap (λ xs. front r.encoding (xs ++ ls)) (four_lines end again r [] p)
-    ∙ to_quality end again r (r.qual ∷ ls) p
-    ∙ quality_goes r.encoding r.title r.seq [] r.qual ls (omega arith)
-    (sound_qual r.encoding (length r.seq) r.qual lawful.seq_fits same lawful.scores)
-    ∙ quality_ends r.encoding r.title r.seq r.qual ls (omega arith)
 
 -- the records of lines that begin with one: that record, and then those of the lines after it
 records_of : (n : ℕ) (e : Encoding) (r : Read) (ls others : List (List ℕ)) → length others < n →
