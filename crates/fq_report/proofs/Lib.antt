@@ -1,3 +1,2 @@
-pub mod FloatLemmas
 pub mod StepLemmas
 pub mod WorkedExamples
