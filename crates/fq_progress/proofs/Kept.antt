@@ -1,9 +1,10 @@
 -- What holds in every state that a run reaches.
 use Rattle.std.proofs.Common.{◌≡◌, ◌⊎◌, inl, inr, ⊎_elim, ℕ, suc, ◌+◌, ◌%◌, ◌<◌, ◌≤◌, Bool, true, false, Some, List, [], ◌∷◌, ◌++◌, length, drop, length-append, refl, sym, ap, ◌∙◌, subst, arith}
+use Rattle.std.proofs.lemmas.Bool.{cases_order}
 use Rattle.fq_progress.specs.Model.{Run, IsRun, Reply, texts, stop, Doing, takes, answers, empties, left, Seat, Dealer, awaits_start, deals, passes_start, closes, Caller, begins, closes_start, writes, drains, awaits_dealer, awaits_workers, State, closed_lanes, changed, new_seat, start}
 use Rattle.fq_progress.specs.Moves.{Move, put_start, close_start, give_up, write, fail_to_write, hear_stop, find_mark, drop_reply, drop_mark, end_drain, join_dealer, join_worker, take_start, find_no_start, deal, end_reading, pass_start, close_blocks, take_block, put_reply, empty_block, leave, May, after, next_reply, with_block, with_block_taken, with_reply, with_reply_taken}
 use Rattle.fq_progress.proofs.Seats.{changed_each, below_next}
-use Rattle.fq_progress.proofs.Turns.{turn_at, share, share_here, share_away}
+use Rattle.fq_progress.proofs.Turns.{turn_at, share, share_here, share_away, turn_below, share_less}
 use Rattle.fq_progress.proofs.Measure.{one_less, some_reply}
 
 -- Of one seat.
@@ -533,3 +534,18 @@ keeps p s (leave j) run kept may =
     (λ c d. left_holds c d q may.1)
     (λ h. inl refl)
     (λ e. refl)
+
+-- If all that was dealt to the worker in turn was written, so was all that was dealt.
+pub all_written : (p : Run) (s : State) → IsRun p → IsKept p s →
+    HoldAll p s.written s.dealt s.seats → share p.workers s.dealt s.turn ≤ share p.workers s.written
+    s.turn → s.written ≡ s.dealt
+all_written p s run kept holds few = ⊎_elim
+    (λ e. e)
+    (⊎_elim
+    (λ h. (let less = share_less p.workers s.written s.dealt h in let less' =
+    rw (← kept.turn) at less in absurd (omega (arith, less', few))))
+    (λ h. (let less = share_less p.workers s.dealt s.written h in
+    let t = turn_at p.workers s.dealt in
+    let most = (holds t (turn_below p.workers s.dealt run.some_workers)).most in
+    absurd (omega (arith, less, most)))))
+    (cases_order s.written s.dealt)
