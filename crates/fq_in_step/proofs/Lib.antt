@@ -4,9 +4,6 @@ pub mod TextLemmas
 pub mod CountLemmas
 pub mod InStepLemmas
 pub mod ReportLemmas
-pub mod ListSums
-pub mod ReportListLemmas
-pub mod RemovedLemmas
 pub mod EverythingLemmas
 pub mod WorkedExamples
 pub mod FourLineLemmas
