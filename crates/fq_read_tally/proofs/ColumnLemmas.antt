@@ -298,8 +298,6 @@ module _ (x : Columns) (rows len len' reads at : ℕ) (e : Encoding) (s q : List
       (letter is_a x.a few.a) (letter is_c x.c few.c) (letter is_g x.g few.g)
       (letter is_t x.t few.t) (letter is_n x.n few.n)
 
--- Packed columns.
-
 -- A property of each column.
 
 pub record OfEach (P : List ℕ → Type 0) (x : Columns) : Type 0 where

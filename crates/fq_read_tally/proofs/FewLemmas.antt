@@ -1,5 +1,5 @@
 -- Rows of a few reads, of which a vector holds some.
-use Rattle.std.proofs.Common.{◌≡◌, ℕ, zero, suc, ◌+◌, ◌<◌, ◌≤◌, true, false, nat_le, List, [], ◌∷◌, ◌++◌, length, take, map, get_or, replicate, sum, refl, ap, ap₂, sym, ◌∙◌, arith, eqb, max, Fits, w8, w16, subst}
+use Rattle.std.proofs.Common.{◌≡◌, ℕ, zero, suc, ◌+◌, ◌<◌, ◌≤◌, true, false, nat_le, List, [], ◌∷◌, ◌++◌, length, take, map, get_or, replicate, refl, ap, ap₂, sym, ◌∙◌, arith, eqb, max, Fits, w8, w16, subst}
 use Rattle.std.specs.List.{list_all}
 use Rattle.std.proofs.lemmas.List.{append_assoc, length-append, length-replicate, length-map, map-append, get_or_past, replicate-append-replicate, map-id, append-nil}
 use Rattle.std.proofs.lemmas.Bool.{cond-true, cond-false, and_parts, le-leb, leb-true, ne_eqb}

@@ -45,21 +45,6 @@ pub lanes_then_none : (e : Encoding) (k : ℕ) (q : List ℕ) → list_all (is_s
 lanes_then_none e k q all = list_all-append (is_lane e) q (replicate k 0)
     ∙ and_from _ _ (scored_lanes e q all) (no_lanes e k)
 
--- After its reads were moved a counter holds none.
-pub emptied : (old new : Columns) (last reached reads : ℕ) → HoldsFew last reached reads old →
-    ((rows : ℕ) → AreFew rows reached 254 old → AreFew rows 0 0 new) → HoldsFew last 0 0 new
-emptied old new last reached reads holds none =
-    let within = holds.within in
-    let room = holds.room in
-    let rows = last + 32 in
-    record {
-      few = none rows (few_weaker old rows rows reached reached reads 254 holds.few (omega arith)
-          (omega arith) (omega arith));
-      within = omega arith;
-      near = holds.near;
-      room = omega arith;
-    }
-
 -- counting no bases in the rows of a few reads changes nothing
 pub nothing_counted : (x : Columns) (rows len reads at : ℕ) (e : Encoding) →
     AreFew rows len reads x → reads ≤ 254 → at ≤ 10000 → at ≤ rows →

@@ -12,5 +12,3 @@ pub mod LeftLaws
 pub mod SideLemmas
 pub mod SideColumnSums
 pub mod SideColumnLemmas
-pub mod PackedLemmas
-pub mod PackingLemmas

@@ -9,7 +9,8 @@ use Rattle.fq_read_tally.specs.Rows.{with_one, row_of, counted, counted_if, coun
 use Rattle.fq_read_tally.specs.Courses.{Part, whole, Course, survives}
 use Rattle.fq_read_tally.specs.SideTallies.{no_bases, bases_plus, bases_of, mean_score, gc_percent, no_reads, with_part, reads_plus, no_side, behind_of, with_read, with_step_counts, side_plus}
 use Rattle.fq_read_tally.proofs.RowLemmas.{plus_none}
-use Rattle.fq_read_tally.proofs.SideColumnSums.{side_columns_none, side_columns_read}
+use Rattle.fq_read_tally.proofs.PositionLemmas.{rows_assoc, rows_comm}
+use Rattle.fq_read_tally.proofs.SideColumnSums.{side_columns_none, side_columns_read, side_columns_comm, side_columns_assoc}
 
 -- a count that a u64 can hold
 abbrev Small : ℕ → Type 0
@@ -311,3 +312,71 @@ side_none t small =
     let shortened = plus_none t.steps.shortened in
     let dropped = plus_none t.steps.dropped in
     let same : side_plus t no_side ≡ side_parts t = cc in same
+
+-- Sums in any order.
+
+capped_comm : (a b : ℕ) → capped_sum a b ≡ capped_sum b a
+capped_comm a b = omega arith
+
+min_comm : (a b : ℕ) → min a b ≡ min b a
+min_comm a b = omega arith
+
+max_comm : (a b : ℕ) → max a b ≡ max b a
+max_comm a b = omega arith
+
+bases_comm : (a b : BaseTally) → bases_plus a b ≡ bases_plus b a
+bases_comm a b =
+    let p = capped_comm a.bases b.bases in
+    let q = capped_comm a.at_least_20 b.at_least_20 in
+    let r = capped_comm a.at_least_30 b.at_least_30 in
+    let s = capped_comm a.score_sum b.score_sum in
+    let t = capped_comm a.gc b.gc in
+    let u = capped_comm a.n b.n in cc
+
+reads_comm : (a b : ReadsTally) → reads_plus a b ≡ reads_plus b a
+reads_comm a b =
+    let r = capped_comm a.reads b.reads in
+    let s = bases_comm a.bases b.bases in
+    let t = min_comm a.shortest b.shortest in
+    let u = max_comm a.longest b.longest in
+    let v = rows_comm a.lengths b.lengths in
+    let w = rows_comm a.mean_scores b.mean_scores in
+    let x = rows_comm a.gc_percents b.gc_percents in cc
+
+reads_assoc : (a b c : ReadsTally) → reads_plus (reads_plus a b) c ≡ reads_plus a (reads_plus b c)
+reads_assoc a b c =
+    let r = capped_assoc a.reads b.reads c.reads in
+    let s = bases_assoc a.bases b.bases c.bases in
+    let t = min_assoc a.shortest b.shortest c.shortest in
+    let u = max_assoc a.longest b.longest c.longest in
+    let v = rows_assoc a.lengths b.lengths c.lengths in
+    let w = rows_assoc a.mean_scores b.mean_scores c.mean_scores in
+    let x = rows_assoc a.gc_percents b.gc_percents c.gc_percents in cc
+
+-- two sides may be added in either order
+pub side_comm : (s t : SideTally) → side_plus s t ≡ side_plus t s
+side_comm s t =
+    let before = reads_comm s.before t.before in
+    let paired = reads_comm s.paired t.paired in
+    let unpaired = reads_comm s.unpaired t.unpaired in
+    let front = capped_comm s.front t.front in
+    let behind = capped_comm s.behind t.behind in
+    let removed_front = rows_comm s.removed_front t.removed_front in
+    let removed_behind = rows_comm s.removed_behind t.removed_behind in
+    let positions = side_columns_comm s.positions t.positions in
+    let shortened = rows_comm s.steps.shortened t.steps.shortened in
+    let dropped = rows_comm s.steps.dropped t.steps.dropped in cc
+
+-- of three sides the first two may be added first, or the last two
+pub side_assoc : (r s t : SideTally) → side_plus (side_plus r s) t ≡ side_plus r (side_plus s t)
+side_assoc r s t =
+    let before = reads_assoc r.before s.before t.before in
+    let paired = reads_assoc r.paired s.paired t.paired in
+    let unpaired = reads_assoc r.unpaired s.unpaired t.unpaired in
+    let front = capped_assoc r.front s.front t.front in
+    let behind = capped_assoc r.behind s.behind t.behind in
+    let removed_front = rows_assoc r.removed_front s.removed_front t.removed_front in
+    let removed_behind = rows_assoc r.removed_behind s.removed_behind t.removed_behind in
+    let positions = side_columns_assoc r.positions s.positions t.positions in
+    let shortened = rows_assoc r.steps.shortened s.steps.shortened t.steps.shortened in
+    let dropped = rows_assoc r.steps.dropped s.steps.dropped t.steps.dropped in cc

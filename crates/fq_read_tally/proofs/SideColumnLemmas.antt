@@ -121,13 +121,6 @@ side_of_both p u r v w p' u' r' v' w' =
     (columns_four p p' v v')
     (columns_four u u' w w')
 
--- columns are added that were counted apart
-pub side_more : (p u r v w x y z : Columns) →
-    side_of p u (columns_plus r x) (columns_plus v y) (columns_plus w z)
-    ≡ side_columns_plus (side_of p u r v w) (three x y z)
-side_more p u r v w x y z = three_are (columns_swap r x (columns_plus p u))
-    (sym (columns_assoc p v y)) (sym (columns_assoc u w z))
-
 -- a base that is counted in place is one of those before
 pub in_place : (x rest all : Columns) (mate_survives : Bool) (t : SideColumns) →
     columns_plus x rest ≡ all →

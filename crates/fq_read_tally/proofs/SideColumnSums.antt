@@ -34,6 +34,21 @@ side_columns_none t =
     let unpaired = columns_none t.unpaired in
     let same : side_columns_plus t no_side_columns ≡ side_parts t = cc in same
 
+-- in any order
+pub side_columns_comm : (s t : SideColumns) → side_columns_plus s t ≡ side_columns_plus t s
+side_columns_comm s t =
+    let before = columns_comm s.before t.before in
+    let paired = columns_comm s.paired t.paired in
+    let unpaired = columns_comm s.unpaired t.unpaired in cc
+
+-- the first two first, or the last two
+pub side_columns_assoc : (r s t : SideColumns) →
+    side_columns_plus (side_columns_plus r s) t ≡ side_columns_plus r (side_columns_plus s t)
+side_columns_assoc r s t =
+    let before = columns_assoc r.before s.before t.before in
+    let paired = columns_assoc r.paired s.paired t.paired in
+    let unpaired = columns_assoc r.unpaired s.unpaired t.unpaired in cc
+
 before_read : (x : Columns) (s t : SideColumns) →
     with_before x (side_columns_plus s t) ≡ side_columns_plus s (with_before x t)
 before_read x s t = let before = columns_assoc s.before t.before x in cc

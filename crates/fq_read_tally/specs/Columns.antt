@@ -6,7 +6,6 @@ use Rattle.fq_text.specs.declared.encoding.Encoding.{Encoding}
 use Rattle.fq_trim.specs.Keeping.{scores}
 use Rattle.fq_read_tally.specs.declared.columns.Columns.{Columns}
 use Rattle.fq_read_tally.specs.Rows.{rows_plus}
-use Rattle.fq_read_tally.specs.Tables.{first_table, later}
 use Rattle.fq_read_tally.specs.Courses.{Part}
 use Rattle.fq_read_tally.specs.Letters.{is_a, is_c, is_g, is_t, is_n}
 use Rattle.fq_read_tally.specs.Counting.{last_position, placed, shifted, one_if, lane_score}
@@ -87,25 +86,9 @@ pub record AreCleared (x y : Columns) : Type 0 where
   pub t : (rows : ℕ) → rows ≤ length x.t → IsFew rows 0 0 y.t
   pub n : (rows : ℕ) → rows ≤ length x.n → IsFew rows 0 0 y.n
 
--- Columns as tables, one after the other.
-
-abbrev pub column_count : ℕ
-column_count = 8
-
+-- all columns, one after the other
 abbrev pub columns_tables : Columns → List (List ℕ)
 columns_tables t = t.bases ∷ t.score_sum ∷ t.q30_bases ∷ t.a ∷ t.c ∷ t.g ∷ t.t ∷ t.n ∷ []
-
-abbrev pub columns_in : List (List ℕ) → Columns
-columns_in ts = record {
-  bases = first_table ts;
-  score_sum = first_table (later 1 ts);
-  q30_bases = first_table (later 2 ts);
-  a = first_table (later 3 ts);
-  c = first_table (later 4 ts);
-  g = first_table (later 5 ts);
-  t = first_table (later 6 ts);
-  n = first_table (later 7 ts);
-}
 
 -- Columns of all kinds.
 

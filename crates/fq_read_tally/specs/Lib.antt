@@ -8,6 +8,3 @@ pub mod SideColumns
 pub mod Vectors
 pub mod SideTallies
 pub mod Parts
-pub mod Packing
-pub mod Packed
-pub mod Unreads

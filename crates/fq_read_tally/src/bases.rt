@@ -1,7 +1,7 @@
 //! Counts of bases and of their scores.
 
-ghost use Rattle.std.specs.Prelude.{◌≡◌, ◌≤◌, true, ◌-◌, ◌++◌, length, take, drop};
-ghost use Rattle.std.specs.Prelude.{sum, OnOk};
+ghost use Rattle.std.specs.Prelude.{◌≡◌, ◌≤◌, true, ◌-◌, length, take, drop};
+ghost use Rattle.std.specs.Prelude.{sum};
 ghost use Rattle.std.specs.List.{list_all};
 ghost use Rattle.fq_text.specs.Grammar.{limit};
 ghost use Rattle.fq_text.specs.Scores.{is_scored};
@@ -9,10 +9,8 @@ ghost use Rattle.fq_text.specs.declared.encoding.Encoding.TheVariants.{Solexa};
 ghost use Rattle.fq_trim.specs.Keeping.{scores};
 ghost use Rattle.fq_read_tally.specs.Parts.{IsCount, CountsOn};
 
-use crate::tables::Tables;
-use crate::unread::Unread;
 use crate::vectors::{WIDTH, at_least, gc_in, n_in, sum_of, vector_of};
-use fq_text::{Encoding, OutOfMemory};
+use fq_text::Encoding;
 use std::simd::prelude::*;
 
 /// Counts of bases and of their scores. Sums saturate at `u64::MAX`.
@@ -35,8 +33,6 @@ pub struct BaseTally {
 impl BaseTally {
     ghost use Rattle.fq_read_tally.specs.Parts.{HasPart, part_between};
     ghost use Rattle.fq_read_tally.specs.SideTallies.{no_bases, bases_of, bases_plus, mean_score, gc_percent};
-    ghost use Rattle.fq_read_tally.specs.Tables.{later};
-    ghost use Rattle.fq_read_tally.specs.Packing.{bases_tables, bases_in};
 
     // No bases.
     pub(crate) fn zero() -> BaseTally
@@ -49,40 +45,6 @@ impl BaseTally {
             score_sum: 0,
             gc: 0,
             n: 0,
-        }
-    }
-
-    // Packs the counts as the next tables.
-    pub(crate) fn pack(&self, tables: &mut Tables) -> Result<(), OutOfMemory>
-        ensures { OnOk result (tables.new ≡ tables.old ++ bases_tables self.now) }
-    {
-        tables.push_number(self.bases)?;
-        tables.push_number(self.at_least_20)?;
-        tables.push_number(self.at_least_30)?;
-        tables.push_number(self.score_sum)?;
-        tables.push_number(self.gc)?;
-        tables.push_number(self.n)?;
-        Ok(())
-    }
-
-    // The counts of the next tables.
-    pub(crate) fn read(unread: &mut Unread<'_>) -> BaseTally
-        ensures counts { result ≡ bases_in unread.old }
-        ensures rest { unread.new ≡ later 6 unread.old }
-    {
-        let bases = unread.next_number();
-        let at_least_20 = unread.next_number();
-        let at_least_30 = unread.next_number();
-        let score_sum = unread.next_number();
-        let gc = unread.next_number();
-        let n = unread.next_number();
-        BaseTally {
-            bases,
-            at_least_20,
-            at_least_30,
-            score_sum,
-            gc,
-            n,
         }
     }
 

@@ -1,16 +1,13 @@
 //! Counts of bases by their positions in reads.
 
-ghost use Rattle.std.specs.Prelude.{◌≡◌, ◌+◌, ◌≤◌, true, ◌++◌, length, IfOk, OnOk};
+ghost use Rattle.std.specs.Prelude.{◌≡◌, ◌+◌, ◌≤◌, true, length, IfOk};
 ghost use Rattle.std.specs.List.{list_all};
 ghost use Rattle.fq_text.specs.Grammar.{limit};
 ghost use Rattle.fq_text.specs.Scores.{is_scored};
 ghost use Rattle.fq_read_tally.specs.Counting.{last_position};
-ghost use Rattle.fq_read_tally.specs.Tables.{later};
-ghost use Rattle.fq_read_tally.specs.Columns.{no_columns, columns_from, columns_plus, empty_rows, one_in, columns_tables, columns_in, column_count};
+ghost use Rattle.fq_read_tally.specs.Columns.{no_columns, columns_from, columns_plus, empty_rows, one_in};
 
 use crate::rows::Rows;
-use crate::tables::Tables;
-use crate::unread::Unread;
 use fq_text::{Encoding, OutOfMemory};
 use std::alloc::Global;
 
@@ -125,49 +122,5 @@ impl Columns {
         self.g.add_all(&other.g);
         self.t.add_all(&other.t);
         self.n.add_all(&other.n);
-    }
-
-    // Packs the counts as the next tables.
-    pub(crate) fn pack(&self, tables: &mut Tables) -> Result<(), OutOfMemory>
-        ensures { OnOk result (tables.new ≡ tables.old ++ columns_tables self.now) }
-    {
-        self.bases.pack(tables)?;
-        self.score_sum.pack(tables)?;
-        self.q30_bases.pack(tables)?;
-        self.a.pack(tables)?;
-        self.c.pack(tables)?;
-        self.g.pack(tables)?;
-        self.t.pack(tables)?;
-        self.n.pack(tables)?;
-        Ok(())
-    }
-
-    // Adds the counts of the next tables.
-    pub(crate) fn add_unread(&mut self, unread: &mut Unread<'_>)
-        ensures added { self.new ≡ columns_plus self.old (columns_in unread.old) }
-        ensures rest { unread.new ≡ later column_count unread.old }
-    {
-        unread.add_next(&mut self.bases);
-        unread.add_next(&mut self.score_sum);
-        unread.add_next(&mut self.q30_bases);
-        unread.add_next(&mut self.a);
-        unread.add_next(&mut self.c);
-        unread.add_next(&mut self.g);
-        unread.add_next(&mut self.t);
-        unread.add_next(&mut self.n);
-    }
-
-    // Removes all rows and keeps their memory.
-    pub(crate) fn clear(&mut self)
-        ensures { self.new ≡ no_columns }
-    {
-        self.bases.clear();
-        self.score_sum.clear();
-        self.q30_bases.clear();
-        self.a.clear();
-        self.c.clear();
-        self.g.clear();
-        self.t.clear();
-        self.n.clear();
     }
 }

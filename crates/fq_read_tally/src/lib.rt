@@ -21,7 +21,6 @@
 //!   │     ├ ByteRows      a column of 8 bits
 //!   │     └ WordRows      the sum of scores, of 16 bits
 //!   └ StepsTally          of steps
-//! Tables                  counts that are packed, one after the other, read again by `Unread`
 //! ```
 #![tactic(auto)]
 
@@ -36,9 +35,8 @@ mod side;
 mod side_counts;
 mod side_positions;
 mod steps;
-mod tables;
+mod table;
 mod trimmed;
-mod unread;
 mod vectors;
 
 pub use bases::BaseTally;
@@ -49,6 +47,4 @@ pub use side::SideTally;
 pub use side_counts::SideCounts;
 pub use side_positions::SidePositions;
 pub use steps::StepsTally;
-pub use tables::Tables;
 pub use trimmed::Trimmed;
-pub use unread::Unread;

@@ -5,7 +5,7 @@ ghost use Rattle.fq_read_tally.specs.Rows.{rows_plus};
 ghost use Rattle.fq_read_tally.specs.Counting.{last_position, most_reads, largest_word, word_before_byte, AtMost, IsFew};
 
 use crate::rows::Rows;
-use crate::unread::Table;
+use crate::table::Table;
 use fq_text::OutOfMemory;
 use std::alloc::Global;
 use std::marker::Model;

@@ -1,17 +1,14 @@
 //! Counts of bases by their positions in reads, as they are counted.
 
-ghost use Rattle.std.specs.Prelude.{◌≡◌, ◌+◌, ◌≤◌, ℕ, true, ◌++◌, length, IfOk, OnOk};
+ghost use Rattle.std.specs.Prelude.{◌≡◌, ◌+◌, ◌≤◌, ℕ, true, length, IfOk};
 ghost use Rattle.std.specs.List.{list_all};
 ghost use Rattle.fq_text.specs.Grammar.{limit};
 ghost use Rattle.fq_text.specs.Scores.{is_scored};
 ghost use Rattle.fq_read_tally.specs.Counting.{last_position, most_reads};
-ghost use Rattle.fq_read_tally.specs.Tables.{later};
-ghost use Rattle.fq_read_tally.specs.Columns.{no_columns, columns_from, columns_plus, first_rows, AreFew, columns_tables, columns_in, column_count};
+ghost use Rattle.fq_read_tally.specs.Columns.{no_columns, columns_from, columns_plus, first_rows, AreFew};
 
 use crate::columns::{Columns, LAST_POSITION};
 use crate::narrow_columns::NarrowColumns;
-use crate::tables::Tables;
-use crate::unread::Unread;
 use crate::vectors::WIDTH;
 use fq_text::{Encoding, OutOfMemory};
 use std::alloc::Global;
@@ -137,43 +134,6 @@ impl Positions {
     {
         self.totals.add_all(&other.totals);
         other.narrow.add_to(&mut self.totals, other.reached);
-    }
-
-    // Moves all counts to the totals.
-    pub(crate) fn settle(&mut self)
-        ensures { self.new ≡ self.old }
-    {
-        empty(&mut self.narrow, &mut self.totals, self.reached);
-        self.reached = 0;
-        self.reads = 0;
-    }
-
-    // Packs the counts as the next tables.
-    pub(crate) fn pack(&mut self, tables: &mut Tables) -> Result<(), OutOfMemory>
-        ensures { OnOk result (tables.new ≡ tables.old ++ columns_tables self.old) }
-    {
-        empty(&mut self.narrow, &mut self.totals, self.reached);
-        self.reached = 0;
-        self.reads = 0;
-        self.totals.pack(tables)
-    }
-
-    // Adds the counts of the next tables.
-    pub(crate) fn add_unread(&mut self, unread: &mut Unread<'_>)
-        ensures added { self.new ≡ columns_plus self.old (columns_in unread.old) }
-        ensures rest { unread.new ≡ later column_count unread.old }
-    {
-        self.totals.add_unread(unread);
-    }
-
-    // Sets all counts to those of no bases, and keeps their memory.
-    pub(crate) fn clear(&mut self)
-        ensures { self.new ≡ no_columns }
-    {
-        self.totals.clear();
-        self.narrow.clear(self.reached);
-        self.reached = 0;
-        self.reads = 0;
     }
 }
 

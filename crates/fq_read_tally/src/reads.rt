@@ -1,12 +1,10 @@
 //! Counts of reads.
 
-ghost use Rattle.std.specs.Prelude.{◌≡◌, ◌≤◌, ◌++◌, IfOk, OnOk};
+ghost use Rattle.std.specs.Prelude.{◌≡◌, ◌≤◌, IfOk};
 ghost use Rattle.fq_text.specs.Grammar.{limit};
 
 use crate::bases::BaseTally;
 use crate::rows::Rows;
-use crate::tables::Tables;
-use crate::unread::Unread;
 use fq_text::OutOfMemory;
 use std::alloc::Global;
 
@@ -34,8 +32,6 @@ pub struct ReadsTally {
 
 impl ReadsTally {
     ghost use Rattle.fq_read_tally.specs.SideTallies.{no_reads, with_bases, reads_plus};
-    ghost use Rattle.fq_read_tally.specs.Tables.{later};
-    ghost use Rattle.fq_read_tally.specs.Packing.{reads_tables, reads_in};
 
     // No reads.
     pub(crate) fn new(alloc: Global) -> Result<ReadsTally, OutOfMemory>
@@ -86,46 +82,5 @@ impl ReadsTally {
         self.lengths.add_all(&other.lengths);
         self.mean_scores.add_all(&other.mean_scores);
         self.gc_percents.add_all(&other.gc_percents);
-    }
-
-    // Packs the counts as the next tables.
-    pub(crate) fn pack(&self, tables: &mut Tables) -> Result<(), OutOfMemory>
-        ensures { OnOk result (tables.new ≡ tables.old ++ reads_tables self.now) }
-    {
-        tables.push_number(self.reads)?;
-        self.bases.pack(tables)?;
-        tables.push_number(self.shortest)?;
-        tables.push_number(self.longest)?;
-        self.lengths.pack(tables)?;
-        self.mean_scores.pack(tables)?;
-        self.gc_percents.pack(tables)?;
-        Ok(())
-    }
-
-    // Adds the counts of the next tables.
-    pub(crate) fn add_unread(&mut self, unread: &mut Unread<'_>)
-        ensures added { self.new ≡ reads_plus self.old (reads_in unread.old) }
-        ensures rest { unread.new ≡ later 12 unread.old }
-    {
-        self.reads = self.reads.saturating_add(unread.next_number());
-        self.bases = self.bases.plus(BaseTally::read(unread));
-        self.shortest = self.shortest.min(unread.next_number());
-        self.longest = self.longest.max(unread.next_number());
-        unread.add_next(&mut self.lengths);
-        unread.add_next(&mut self.mean_scores);
-        unread.add_next(&mut self.gc_percents);
-    }
-
-    // Sets all counts to those of no reads.
-    pub(crate) fn clear(&mut self)
-        ensures { self.new ≡ no_reads }
-    {
-        self.reads = 0;
-        self.bases = BaseTally::zero();
-        self.shortest = u64::MAX;
-        self.longest = 0;
-        self.lengths.clear();
-        self.mean_scores.clear();
-        self.gc_percents.clear();
     }
 }

@@ -2,8 +2,7 @@
 
 ghost use Rattle.std.specs.Prelude.{◌≡◌, ◌≤◌, ℕ, length, get_or};
 
-use crate::tables::Tables;
-use crate::unread::Table;
+use crate::table::Table;
 use fq_text::OutOfMemory;
 use std::alloc::Global;
 use std::marker::Model;
@@ -38,8 +37,8 @@ impl Model for Rows {
 }
 
 impl Rows {
-    ghost use Rattle.std.specs.Prelude.{◌≡◌, ◌≤◌, [], ◌∷◌, ◌++◌, length, replicate, IfOk, OnOk};
-    ghost use Rattle.fq_read_tally.specs.Unreads.{counts_of};
+    ghost use Rattle.std.specs.Prelude.{◌≡◌, ◌≤◌, [], ◌∷◌, ◌++◌, length, replicate, IfOk};
+    ghost use Rattle.fq_read_tally.specs.Tables.{counts_of};
     ghost use Rattle.fq_read_tally.specs.Rows.{last_row, most_rows, counted, rows_plus};
 
     // No rows.
@@ -94,13 +93,6 @@ impl Rows {
         self.add_table(Table::Longs(&other.counts));
     }
 
-    // Packs the rows as the next table.
-    pub(crate) fn pack(&self, tables: &mut Tables) -> Result<(), OutOfMemory>
-        ensures { OnOk result (tables.new ≡ tables.old ++ (self.now ∷ [])) }
-    {
-        tables.push(&self.counts)
-    }
-
     // Adds the counts of a table.
     pub(crate) fn add_table(&mut self, table: Table<'_>)
         requires { length (counts_of table) ≤ most_rows }
@@ -111,13 +103,6 @@ impl Rows {
         for i in 0..rows {
             self.counts[i] = self.counts[i].saturating_add(table.count(i));
         }
-    }
-
-    // Removes all rows and keeps their memory.
-    pub(crate) fn clear(&mut self)
-        ensures { self.new ≡ [] }
-    {
-        self.counts.clear();
     }
 }
 

@@ -1,6 +1,6 @@
 //! Counts of the reads of one side.
 
-ghost use Rattle.std.specs.Prelude.{◌≡◌, ◌≤◌, false, [], ◌++◌, Some, length, IfOk, OnOk};
+ghost use Rattle.std.specs.Prelude.{◌≡◌, ◌≤◌, false, [], Some, length, IfOk};
 ghost use Rattle.fq_text.specs.Grammar.{IsLawful};
 ghost use Rattle.fq_trim.specs.KeptPlaces.{places_of};
 ghost use Rattle.fq_read_tally.specs.Courses.{alone, course, passage, part_at, whole};
@@ -11,9 +11,7 @@ use crate::reads::ReadsTally;
 use crate::rows::Rows;
 use crate::side_positions::SidePositions;
 use crate::steps::StepsTally;
-use crate::tables::Tables;
 use crate::trimmed::Trimmed;
-use crate::unread::Unread;
 use fq_text::{OutOfMemory, ReadView};
 use fq_trim::{Kept, Steps};
 use std::alloc::Global;
@@ -43,8 +41,6 @@ pub struct SideTally {
 
 impl SideTally {
     ghost use Rattle.fq_read_tally.specs.SideTallies.{no_side, with_left, with_read, side_plus};
-    ghost use Rattle.fq_read_tally.specs.Tables.{later};
-    ghost use Rattle.fq_read_tally.specs.Packing.{side_tables, side_in, side_table_count};
 
     // No reads.
     pub(crate) fn new(alloc: Global) -> Result<SideTally, OutOfMemory>
@@ -143,53 +139,6 @@ impl SideTally {
         self.removed_behind.add_all(&other.removed_behind);
         self.positions.add_all(&other.positions);
         self.steps.add_all(&other.steps);
-    }
-
-    // Packs the counts as the next tables. Nothing is said of what is left.
-    pub(crate) fn pack(&mut self, tables: &mut Tables) -> Result<(), OutOfMemory>
-        ensures { OnOk result (tables.new ≡ tables.old ++ side_tables self.old) }
-    {
-        self.before.pack(tables)?;
-        self.paired.pack(tables)?;
-        self.unpaired.pack(tables)?;
-        tables.push_number(self.front)?;
-        tables.push_number(self.behind)?;
-        self.removed_front.pack(tables)?;
-        self.removed_behind.pack(tables)?;
-        self.positions.pack(tables)?;
-        self.steps.pack(tables)?;
-        Ok(())
-    }
-
-    // Adds the counts of the next tables.
-    pub(crate) fn add_unread(&mut self, unread: &mut Unread<'_>)
-        ensures added { self.new ≡ side_plus self.old (side_in unread.old) }
-        ensures rest { unread.new ≡ later side_table_count unread.old }
-    {
-        self.before.add_unread(unread);
-        self.paired.add_unread(unread);
-        self.unpaired.add_unread(unread);
-        self.front = self.front.saturating_add(unread.next_number());
-        self.behind = self.behind.saturating_add(unread.next_number());
-        unread.add_next(&mut self.removed_front);
-        unread.add_next(&mut self.removed_behind);
-        self.positions.add_unread(unread);
-        self.steps.add_unread(unread);
-    }
-
-    // Sets all counts to those of no reads.
-    pub(crate) fn clear(&mut self)
-        ensures { self.new ≡ no_side }
-    {
-        self.before.clear();
-        self.paired.clear();
-        self.unpaired.clear();
-        self.front = 0;
-        self.behind = 0;
-        self.removed_front.clear();
-        self.removed_behind.clear();
-        self.positions.clear();
-        self.steps.clear();
     }
 }
 

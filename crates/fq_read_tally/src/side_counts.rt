@@ -1,13 +1,11 @@
 //! Counts of the reads of one side, on the heap.
 
-ghost use Rattle.std.specs.Prelude.{◌≡◌, ◌++◌, IfOk, OnOk};
+ghost use Rattle.std.specs.Prelude.{◌≡◌, IfOk};
 ghost use Rattle.fq_text.specs.Grammar.{IsLawful};
 ghost use Rattle.fq_read_tally.specs.Courses.{alone, course, passage};
 
 use crate::side::SideTally;
-use crate::tables::Tables;
 use crate::trimmed::Trimmed;
-use crate::unread::Unread;
 use fq_text::{OutOfMemory, ReadView};
 use fq_trim::Steps;
 use std::alloc::Global;
@@ -31,8 +29,6 @@ impl Model for SideCounts {
 
 impl SideCounts {
     ghost use Rattle.fq_read_tally.specs.SideTallies.{no_side, with_read, side_plus};
-    ghost use Rattle.fq_read_tally.specs.Tables.{later};
-    ghost use Rattle.fq_read_tally.specs.Packing.{side_tables, side_in, side_table_count};
 
     /// The counts of no reads. Takes the memory that counting can't do without, which may be
     /// refused.
@@ -72,27 +68,5 @@ impl SideCounts {
         ensures { self.new ≡ side_plus self.old other.now }
     {
         self.inside.add_all(&other.inside);
-    }
-
-    /// Packs the counts as the next tables. Nothing is said of what is left.
-    pub fn pack(&mut self, tables: &mut Tables) -> Result<(), OutOfMemory>
-        ensures { OnOk result (tables.new ≡ tables.old ++ side_tables self.old) }
-    {
-        self.inside.pack(tables)
-    }
-
-    /// Adds the counts of the next tables.
-    pub fn add_unread(&mut self, unread: &mut Unread<'_>)
-        ensures added { self.new ≡ side_plus self.old (side_in unread.old) }
-        ensures rest { unread.new ≡ later side_table_count unread.old }
-    {
-        self.inside.add_unread(unread);
-    }
-
-    /// Sets all counts to those of no reads, and keeps their memory.
-    pub fn clear(&mut self)
-        ensures { self.new ≡ no_side }
-    {
-        self.inside.clear();
     }
 }

@@ -1,14 +1,12 @@
 //! Counts of the bases of one side by their position in the read, before and after trimming.
 
-ghost use Rattle.std.specs.Prelude.{◌≡◌, ◌≤◌, false, [], ◌++◌, Some, length, IfOk, OnOk};
+ghost use Rattle.std.specs.Prelude.{◌≡◌, ◌≤◌, false, [], Some, length, IfOk};
 ghost use Rattle.fq_trim.specs.KeptPlaces.{places_of};
 ghost use Rattle.fq_read_tally.specs.Courses.{part_at, whole};
 ghost use Rattle.fq_read_tally.specs.Columns.{no_columns};
 
 use crate::columns::Columns;
 use crate::positions::Positions;
-use crate::tables::Tables;
-use crate::unread::Unread;
 use fq_text::{Encoding, OutOfMemory, ReadView};
 use fq_trim::Kept;
 use std::alloc::Global;
@@ -45,9 +43,7 @@ impl Model for SidePositions {
 }
 
 impl SidePositions {
-    ghost use Rattle.fq_read_tally.specs.Tables.{later};
     ghost use Rattle.fq_read_tally.specs.Columns.{columns_from};
-    ghost use Rattle.fq_read_tally.specs.Packing.{side_columns_tables, side_columns_in, side_column_count};
     ghost use Rattle.fq_read_tally.specs.SideColumns.{no_side_columns, with_before, with_after, with_columns, side_columns_plus};
     ghost use Rattle.fq_read_tally.specs.Parts.{AreBases};
 
@@ -175,45 +171,6 @@ impl SidePositions {
         self.rest.add_all(&other.rest);
         self.paired_moved.add_all(&other.paired_moved);
         self.unpaired_moved.add_all(&other.unpaired_moved);
-    }
-
-    // Packs the counts as the next tables: the three sums. For this they are made in place, so
-    // nothing is said of what is left.
-    pub(crate) fn pack(&mut self, tables: &mut Tables) -> Result<(), OutOfMemory>
-        ensures { OnOk result (tables.new ≡ tables.old ++ side_columns_tables self.old) }
-    {
-        self.paired.settle();
-        self.unpaired.settle();
-        self.rest.add_all(&self.paired);
-        self.rest.add_all(&self.unpaired);
-        self.paired_moved.add_all(&self.paired);
-        self.unpaired_moved.add_all(&self.unpaired);
-        self.rest.pack(tables)?;
-        self.paired_moved.pack(tables)?;
-        self.unpaired_moved.pack(tables)?;
-        Ok(())
-    }
-
-    // Adds the counts of the next tables, as if all bases were of reads that lost some at their
-    // start.
-    pub(crate) fn add_unread(&mut self, unread: &mut Unread<'_>)
-        ensures added { self.new ≡ side_columns_plus self.old (side_columns_in unread.old) }
-        ensures rest { unread.new ≡ later side_column_count unread.old }
-    {
-        self.rest.add_unread(unread);
-        self.paired_moved.add_unread(unread);
-        self.unpaired_moved.add_unread(unread);
-    }
-
-    // Sets all counts to those of no reads.
-    pub(crate) fn clear(&mut self)
-        ensures { self.new ≡ no_side_columns }
-    {
-        self.paired.clear();
-        self.unpaired.clear();
-        self.rest.clear();
-        self.paired_moved.clear();
-        self.unpaired_moved.clear();
     }
 }
 

@@ -1,14 +1,10 @@
 //! Counts of what the steps did to reads.
 
-ghost use Rattle.std.specs.Prelude.{◌≡◌, ◌++◌, IfOk, OnOk};
+ghost use Rattle.std.specs.Prelude.{◌≡◌, IfOk};
 ghost use Rattle.fq_read_tally.specs.Rows.{counted_all};
-ghost use Rattle.fq_read_tally.specs.Tables.{later};
-ghost use Rattle.fq_read_tally.specs.Packing.{steps_tables, steps_in};
 
 use crate::rows::Rows;
-use crate::tables::Tables;
 use crate::trimmed::Trimmed;
-use crate::unread::Unread;
 use fq_text::OutOfMemory;
 use std::alloc::Global;
 
@@ -55,31 +51,5 @@ impl StepsTally {
     {
         self.shortened.add_all(&other.shortened);
         self.dropped.add_all(&other.dropped);
-    }
-
-    // Packs the counts as the next tables.
-    pub(crate) fn pack(&self, tables: &mut Tables) -> Result<(), OutOfMemory>
-        ensures { OnOk result (tables.new ≡ tables.old ++ steps_tables self.now) }
-    {
-        self.shortened.pack(tables)?;
-        self.dropped.pack(tables)?;
-        Ok(())
-    }
-
-    // Adds the counts of the next tables.
-    pub(crate) fn add_unread(&mut self, unread: &mut Unread<'_>)
-        ensures added { self.new ≡ steps_plus self.old (steps_in unread.old) }
-        ensures rest { unread.new ≡ later 2 unread.old }
-    {
-        unread.add_next(&mut self.shortened);
-        unread.add_next(&mut self.dropped);
-    }
-
-    // Sets all counts to 0.
-    pub(crate) fn clear(&mut self)
-        ensures { self.new ≡ no_steps }
-    {
-        self.shortened.clear();
-        self.dropped.clear();
     }
 }

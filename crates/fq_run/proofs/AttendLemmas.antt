@@ -22,10 +22,12 @@ use Rattle.fq_run_core.specs.Devices.{OutletStates}
 use Rattle.fq_run.specs.Each.{Each3}
 use Rattle.fq_run_core.specs.Endings.{Run, AreTold, ends_whole, IsTrimmed, EveryEnding}
 use Rattle.fq_run_core.specs.Outcomes.{rank}
-use Rattle.fq_run.specs.Threads.{IsFresh, Concludes, run_from, IsThreaded}
+use Rattle.fq_run.specs.Threads.{IsFresh, tallies_from, Concludes, run_from, IsThreaded}
 use Rattle.fq_pair.specs.Walks.{SourceState}
 use Rattle.fq_run_core.specs.PairsRead.{feed_in}
-use Rattle.fq_run_core.specs.Writing.{Runs, FlushesAfter}
+use Rattle.fq_run_core.specs.Writing.{no_halt, Runs, FlushesAfter}
+use Rattle.fq_tally.specs.Results.{tally_if}
+use Rattle.fq_work.specs.Work.{pairs_of}
 use Rattle.fq_run.proofs.MatchLemmas.{Matched}
 use Rattle.fq_run.proofs.StartLemmas.{of_one}
 use Rattle.fq_run_core.specs.declared.halt.Halt.{Halt}
@@ -63,11 +65,14 @@ module _ {S : Type 0} (state : S → SourceState) (c : Choices) (s : SourceState
     (h : HasDealt c s (state dealt.source) start dealt.start to dealt.closings.items dealt.why)
     (some : 0 < length starter.items) (closed : IfOk started (λ e. e ≡ with_mark starter))
     (matched : Each3 Confirmed dealt.closings.items worked k.replies.items →
-    AllZip (Matched c.tallied c.steps) dealt.closings.items k.replies.items)
+    AllZip (Matched c.steps) dealt.closings.items k.replies.items)
     (lanes : length to ≡ w) (pos : 0 < w) (collects : Collects c.tallied w before mid k)
     (over : k.phase ≡ Writing → ⊥) (flushed : FlushesAfter (failed_in k.phase) mid after failed)
     (holds : Bool) (shut : Each3 Confirmed dealt.closings.items worked k.replies.items →
     k.halt.gate ≡ true → IsTrue holds)
+    (tally : Each3 Confirmed dealt.closings.items worked k.replies.items → k.halt ≡ no_halt →
+    tallies_from k.total.tally worked
+    ≡ tally_if c.tallied c.steps (pairs_of h.deals.out.blocks))
   where
     -- the run
     abbrev the_run : Run
@@ -80,60 +85,60 @@ module _ {S : Type 0} (state : S → SourceState) (c : Choices) (s : SourceState
     abbrev reverse_of : S → FeedState
     reverse_of x = feed_in (state x).reverse
 
-    -- the run, with the total and the feeds named otherwise
-    abbrev run_as : Total → Option FeedState → Option FeedState → Run
-    run_as total x y = record {
+    -- the run, with the feeds named otherwise
+    abbrev run_as : Option FeedState → Option FeedState → Run
+    run_as x y = record {
       form = s.form;
       forward = feed_in s.forward;
-      reverse =
-          feed_in s.reverse;
+      reverse = feed_in s.reverse;
       outlets = before;
       forward_left = x;
       reverse_left = y;
-      outlets_left =
-          after;
+      outlets_left = after;
       outcome = ending.outcome;
-      counts = total.counts;
-      tally = total.tally;
+      counts = ending.total.counts;
+      tally = ending.total.tally;
     }
 
-    run_is : run_as k.total (Some (forward_of dealt.source)) (Some (reverse_of dealt.source))
-        ≡ the_run
+    run_is : run_as (Some (forward_of dealt.source)) (Some (reverse_of dealt.source)) ≡ the_run
     run_is =
-        ap (λ n. run_as n (Some (forward_of dealt.source)) (Some (reverse_of dealt.source)))
-        (sym ends.total)
-        ∙ ap (λ x. run_as ending.total x (Some (reverse_of dealt.source)))
+        ap (λ x. run_as x (Some (reverse_of dealt.source)))
         (sym (ap (option_map forward_of) ends.source))
-        ∙ ap (λ y. run_as ending.total (option_map forward_of ending.source) y)
+        ∙ ap (λ y. run_as (option_map forward_of ending.source) y)
         (sym (ap (option_map reverse_of) ends.source))
+
+    -- the counts of what was written, and the tallies of all workers
+    abbrev total : Total
+    total = record { counts = k.total.counts; tally = tallies_from k.total.tally worked }
 
     module _ (none : ending.unended ≡ None) where
       read_on : dealt.why ≡ None → ⊥
       read_on = h.started (started_some started starter dealt.start some closed (ends.start none))
 
       runs : Runs s.form c (feed_in s.forward) (feed_in s.reverse) (forward_of dealt.source)
-          (reverse_of dealt.source) before mid k.total k.halt dealt.why (failed_in k.phase)
+          (reverse_of dealt.source) before mid total k.halt dealt.why (failed_in k.phase)
       runs = runs_threaded s.form c _ _ s _ to dealt.closings.items dealt.why w before mid k
           fresh.fresh h.deals.sent h.deals.out h.deals.ends (matched (ends.workers none)) read_on
-          lanes pos collects over
+          lanes pos total refl (tally (ends.workers none)) collects over
 
       rank_is : 3 ≤ rank ending.outcome
-      rank_is = run_rank s.form c _ _ _ _ before mid k.total k.halt dealt.why _ runs after failed
-          ending.outcome flushed (ends.outcome_is none) fresh.forward fresh.reverse
+      rank_is = run_rank s.form c _ _ _ _ before mid total k.halt dealt.why _ runs after failed
+          ending.outcome flushed (ends.outcome_is none) fresh.forward fresh.reverse ending.total
+          ends.total
 
       every_is : EveryEnding c the_run
       every_is =
           let P : Run → Type 0 = λ r. EveryEnding c r in
-          subst P run_is (run_every s.form c _ _ _ _ before mid k.total k.halt dealt.why _ runs
-          after
-          failed ending.outcome flushed (ends.outcome_is none) fresh.forward fresh.reverse)
+          subst P run_is (run_every s.form c _ _ _ _ before mid total k.halt dealt.why _ runs after
+          failed ending.outcome flushed (ends.outcome_is none) fresh.forward fresh.reverse
+          ending.total ends.total)
 
       whole_is : IsTrue (ends_whole ending.outcome) → AreTold the_run → IsTrimmed c the_run
       whole_is ends_so told =
           let P : Run → Type 0 = λ r. IsTrimmed c r in
-          subst P run_is (run_whole s.form c _ _ _ _ before mid k.total k.halt dealt.why _ runs
-          after
+          subst P run_is (run_whole s.form c _ _ _ _ before mid total k.halt dealt.why _ runs after
           failed ending.outcome flushed (ends.outcome_is none) fresh.forward fresh.reverse
+          ending.total ends.total
           ends_so (record { forward = told.forward; reverse = told.reverse }))
 
       gate_is : ending.outcome ≡ outcome.Gate → IsTrue holds

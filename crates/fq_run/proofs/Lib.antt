@@ -4,3 +4,4 @@ pub mod StartLemmas
 pub mod AttendLemmas
 pub mod MatchLemmas
 pub mod ThreadLemmas
+pub mod TallyLemmas

@@ -1,5 +1,5 @@
 -- What was written in turn, from what confirmed lanes carried.
-use Rattle.std.proofs.Common.{◌≡◌, ℕ, zero, suc, ◌-◌, ◌<◌, ◌%◌, false, Option, Result, Ok, Err, IsOkAnd, List, [], ◌∷◌, ◌++◌, length, map, get_or, refl, sym, ap, ◌∙◌, subst, arith, append_assoc, Bool}
+use Rattle.std.proofs.Common.{◌≡◌, ℕ, zero, suc, ◌-◌, ◌<◌, ◌%◌, false, Option, Result, Ok, Err, IsOkAnd, List, [], ◌∷◌, ◌++◌, length, map, get_or, refl, sym, ap, ◌∙◌, subst, arith, append_assoc}
 use Rattle.std.specs.List.{AllZip}
 use Rattle.std.proofs.lemmas.List.{length-map}
 use Rattle.std.proofs.lemmas.Nat.{mod_below}
@@ -40,18 +40,18 @@ begun_before w xs ys ls b = record {
 
 -- the replies that came are those to the blocks that were sent
 abbrev pub Matched :
-    Bool → List Step → Result (History Numbered) NotEnded → History Reply → Type 0
-Matched tallied steps closing replies = IsOkAnd closing (λ e.
-    (cause : Option Cause) × Answers tallied steps e.items replies.items cause)
+    List Step → Result (History Numbered) NotEnded → History Reply → Type 0
+Matched steps closing replies = IsOkAnd closing (λ e.
+    (cause : Option Cause) × Answers steps e.items replies.items cause)
 
-module _ (tallied : Bool) (steps : List Step) where
+module _ (steps : List Step) where
   -- the replies to the blocks
   abbrev pub answered : List Numbered → List Done
-  answered blocks = map (done_of tallied steps) blocks
+  answered blocks = map (done_of steps) blocks
 
   -- the first replies, if none is a stop, are those to the first blocks
   answers_first : (ds : List Done) (bs : List Numbered) (rs : List Reply) (cause : Option Cause) →
-      IsPrefix (map done ds) rs → Answers tallied steps bs rs cause → IsPrefix ds (answered bs)
+      IsPrefix (map done ds) rs → Answers steps bs rs cause → IsPrefix ds (answered bs)
   answers_first [] bs rs cause p h = (answered bs, refl)
   answers_first (d ∷ ds) [] [] cause p h = let q = p.1 in cc
   answers_first (d ∷ ds) [] (r ∷ rs) cause p h = absurd h
@@ -63,14 +63,14 @@ module _ (tallied : Bool) (steps : List Step) where
       let rest = answers_first ds bs rs cause (p.0, tail) h.1 in (
         rest.0,
         ap (λ y. y ∷ (ds ++ rest.0)) (same ∙ h.0)
-            ∙ ap (λ ys. done_of tallied steps b ∷ ys) rest.1,
+            ∙ ap (λ ys. done_of steps b ∷ ys) rest.1,
       )
   answers_first (d ∷ ds) (b ∷ bs) (Stop why ∷ rs) cause p h =
       let q : done d ∷ (map done ds ++ p.0) ≡ Stop why ∷ rs = p.1 in cc
 
   -- if no reply is a stop, each block has its reply
   answers_all : (ds : List Done) (bs : List Numbered) (rs : List Reply) (cause : Option Cause) →
-      rs ≡ map done ds → Answers tallied steps bs rs cause → answered bs ≡ ds
+      rs ≡ map done ds → Answers steps bs rs cause → answered bs ≡ ds
   answers_all [] [] rs cause e h = refl
   answers_all [] (b ∷ bs) [] cause e h = absurd h
   answers_all [] (b ∷ bs) (r ∷ rs) cause e h = cc
@@ -85,16 +85,16 @@ module _ (tallied : Bool) (steps : List Step) where
   answers_all (d ∷ ds) (b ∷ bs) (Stop why ∷ rs) cause e h = cc
 
   matched_one : (t : History Numbered) (c : Result (History Numbered) NotEnded)
-      (f : History Reply) → Closed t c → Matched tallied steps c f →
-      (cause : Option Cause) × Answers tallied steps t.items f.items cause
+      (f : History Reply) → Closed t c → Matched steps c f →
+      (cause : Option Cause) × Answers steps t.items f.items cause
   matched_one t (Ok e) f h m =
-      (m.0, subst (λ (l : History Numbered). Answers tallied steps l.items f.items m.0) h m.1)
+      (m.0, subst (λ (l : History Numbered). Answers steps l.items f.items m.0) h m.1)
   matched_one t (Err e) f h m = absurd m
 
   matched_at : (ts : List (History Numbered)) (cs : List (Result (History Numbered) NotEnded))
-      (fs : List (History Reply)) → AllZip Closed ts cs → AllZip (Matched tallied steps) cs fs →
+      (fs : List (History Reply)) → AllZip Closed ts cs → AllZip (Matched steps) cs fs →
       (j : ℕ) (d : History Numbered) (e : History Reply) → j < length fs →
-      (cause : Option Cause) × Answers tallied steps (get_or ts j d).items (get_or fs j e).items
+      (cause : Option Cause) × Answers steps (get_or ts j d).items (get_or fs j e).items
       cause
   matched_at (t ∷ ts) (c ∷ cs) (f ∷ fs) h m zero d e lt = matched_one t c f h.0 m.0
   matched_at (t ∷ ts) (c ∷ cs) (f ∷ fs) h m (suc j) d e lt =
@@ -106,19 +106,19 @@ module _ (tallied : Bool) (steps : List Step) where
   module _ (w : ℕ) (bs : List Numbered) (ts : List (History Numbered))
       (cs : List (Result (History Numbered) NotEnded)) (fs : List (History Reply))
       (dealt : IsDealt w bs ts) (closed : AllZip Closed ts cs)
-      (matched : AllZip (Matched tallied steps) cs fs) (some : 0 < w) where
+      (matched : AllZip (Matched steps) cs fs) (some : 0 < w) where
     no_history : {T : Type 0} → History T
     no_history = record { name = (null_ptr, (null_ptr, (0, (0, 0)))); items = []; marked = false }
 
     -- the replies of lane j are those to the blocks that were dealt to it
     replied : length fs ≡ w → (j : ℕ) → j < w →
-        (cause : Option Cause) × Answers tallied steps (every j w bs) (get_or fs j no_history).items
+        (cause : Option Cause) × Answers steps (every j w bs) (get_or fs j no_history).items
         cause
     replied lanes j lt =
         let m = matched_at ts cs fs closed matched j no_history no_history
         (omega (arith, lanes)) in (
           m.0,
-          subst (λ xs. Answers tallied steps xs (get_or fs j no_history).items m.0)
+          subst (λ xs. Answers steps xs (get_or fs j no_history).items m.0)
               (dealt.items j no_history lt) m.1,
         )
 
@@ -130,7 +130,7 @@ module _ (tallied : Bool) (steps : List Step) where
         let p : IsPrefix (map done (every j w ds)) (get_or fs j no_history).items =
         subst (λ rs. IsPrefix rs (get_or fs j no_history).items) (every-map done j w ds)
         begins in
-        subst (λ ys. IsPrefix (every j w ds) ys) (sym (every-map (done_of tallied steps) j w bs))
+        subst (λ ys. IsPrefix (every j w ds) ys) (sym (every-map (done_of steps) j w bs))
         (answers_first (every j w ds) (every j w bs) (get_or fs j no_history).items r.0 p r.1)
 
     -- what was written in turn are the replies to the first blocks
@@ -149,7 +149,7 @@ module _ (tallied : Bool) (steps : List Step) where
         (map done ds) in subst P (length-map ds done) (k.ends no_history)) in
         whole_from_turns ds (answered bs) w some
         (λ j lt. first_at ds k.lanes j lt (k.begins j no_history lt))
-        (every-map (done_of tallied steps) (length ds % w) w bs
+        (every-map (done_of steps) (length ds % w) w bs
         ∙ answers_all (every (length ds % w) w ds) (every (length ds % w) w bs)
         (get_or fs (length ds % w) no_history).items r.0 (ends
         ∙ every-map done (length ds % w) w ds) r.1)

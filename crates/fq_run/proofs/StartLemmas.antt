@@ -1,5 +1,5 @@
 -- A run whose threads could not all be started.
-use Rattle.std.proofs.Common.{◌≡◌, ◌↔◌, Option, Some, None, IfSome, IsSome, false, IsTrue, Result, ℕ, ◌-◌, ◌<◌, List, [], ◌∷◌, ◌++◌, length, take, refl, sym, ap, ◌∙◌, subst, arith, ◌≤◌, ◌^◌, vec_len, inl, Bool}
+use Rattle.std.proofs.Common.{◌≡◌, ◌↔◌, Option, Some, None, IfSome, IsSome, false, IsTrue, Result, ℕ, ◌-◌, ◌<◌, List, [], ◌∷◌, ◌++◌, length, take, refl, sym, ap, ◌∙◌, subst, arith, ◌≤◌, ◌^◌, vec_len, ◌&&◌, Bool}
 use Rattle.fq_lane.specs.History.{History}
 use Rattle.fq_lane.specs.declared.tx.NotEnded.{NotEnded}
 use Rattle.fq_text.specs.declared.memory.MemoryRefused.{MemoryRefused}
@@ -33,8 +33,8 @@ use Rattle.fq_run_core.specs.declared.reading_end.ReadingEnd.TheVariants as read
 use Rattle.fq_run_core.specs.Writing.{FlushesAfter, no_halt}
 use Rattle.fq_tally.specs.Results.{tally_if}
 use Rattle.fq_run_core.specs.declared.total.Total.{Total}
-use Rattle.fq_run_core.proofs.TotalLemmas.{no_total_is}
-use Rattle.fq_run_core.specs.Totals.{no_total}
+use Rattle.fq_run_core.proofs.TotalLemmas.{none_at}
+use Rattle.fq_run_core.specs.Totals.{no_total, ended}
 
 -- two things of one source are there, or neither is
 pub of_one : {S A B : Type 0} (f : S → A) (h : S → B) (o : Option S) →
@@ -100,7 +100,7 @@ partial : (run : Run) → run.outcome ≡ outcome.Spawn → IsTrue (ends_whole r
 partial run is whole = let e : IsTrue false = subst IsTrue (ap ends_whole is) whole in absurd cc
 
 module _ (c : Choices) (run : Run) (e : run.outcome ≡ outcome.Spawn) (none : run.counts ≡ no_counts)
-    (empty : run.tally ≡ tally_if c.tallied [] []) (same : IsUntouched run)
+    (untallied : run.tally ≡ None) (same : IsUntouched run)
     (both : (run.forward_left ≡ None) ↔ (run.reverse_left ≡ None)) (holds : Bool) where
   nothing : (out : Out) → text_of out (texts_of c.steps []) ++ [] ≡ []
   nothing out = let q = no_text c.steps out in rw q refl
@@ -118,7 +118,8 @@ module _ (c : Choices) (run : Run) (e : run.outcome ≡ outcome.Spawn) (none : r
     whole = [];
     fate = Unbroken;
     counts = none;
-    tally = inl (empty ∙ ap (λ (t : Total). t.tally) (no_total_is c.tallied c.steps));
+    tally = untallied ∙ none_at false c.tallied None c.steps [] refl
+        ∙ ap (λ (b : Bool). tally_if (c.tallied && b) c.steps []) (sym (ap ends_whole e));
     took = unwritten;
     flushed = λ none started. absurd (started e);
     cut_short = tt;
@@ -189,7 +190,8 @@ refused form c f r f' r' before after counted failed lacked some same also none 
       untouched = λ at. absurd cc;
       whole = λ ends told. absurd cc;
       every = λ lane. run_every form c f r f' r' before before counted no_halt (Some reading.Memory)
-          None p after failed outcome.Memory flushed refl sound sound';
+          None p after failed outcome.Memory flushed refl sound sound' counted
+          (none ∙ sym (ap (ended outcome.Memory) none));
     }
 
 -- the feeds of the source, if it was handed back
@@ -261,16 +263,17 @@ closed state fs gs forward_of reverse_of first second form c s f r is before aft
     e.refused) (sym ended) t))
 
 -- a dealer whose lanes are new, over a source that nothing was read from
-pub can_deal : {S : Type 0} (workers : ℕ) (c : Choices) (s : SourceState) (dealer : Dealer S)
-    (ready : Ready) → IsReady workers dealer ready → length dealer.to.items ≡ vec_len dealer.to →
+pub can_deal : {S : Type 0} (tallied : Bool) (workers : ℕ) (c : Choices) (s : SourceState)
+    (dealer : Dealer S) (ready : Ready) → IsReady tallied workers dealer ready →
+    length dealer.to.items ≡ vec_len dealer.to →
     IsFresh c s → s.most_bytes ≤ 2 ^ 60 → CanDeal c s dealer
-can_deal workers c s dealer ready r len is few =
+can_deal tallied workers c s dealer ready r len is few =
     let some = r.some in let to = r.to in let closings = r.closings in
     record {
       room = (closings.0, omega (arith, closings.1));
       deals = record {
         some = omega arith;
-        lanes = to_dealt (vec_len dealer.to) dealer.to.items _ _ len r.laid;
+        lanes = to_dealt tallied (vec_len dealer.to) dealer.to.items _ _ len r.laid;
         goes = subst GoesOn (sym is.fresh) (record { last = refl; within = omega arith });
         fresh = ap (λ (z : SourceState). z.forward.given) is.fresh;
         encoding = ap (λ (z : SourceState). z.encoding) is.fresh;

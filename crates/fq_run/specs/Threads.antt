@@ -1,6 +1,6 @@
 -- A run on several threads: what is ready before its threads start, how it is concluded, and what
 -- it guarantees.
-use Rattle.std.specs.Prelude.{◌≡◌, ◌≢◌, ◌≤◌, ◌<◌, ℕ, Bool, IsTrue, ◌↔◌, List, [], length, vec_len, vec_capacity}
+use Rattle.std.specs.Prelude.{◌≡◌, ◌≢◌, ◌≤◌, ◌<◌, ℕ, Bool, IsTrue, ◌↔◌, List, [], ◌∷◌, length, vec_len, vec_capacity}
 use Rattle.std.specs.Prelude.{Option, Some, None, IfSome, IsSome, Result, IsOkAnd}
 use Rattle.std.specs.List.{AllZip}
 use Rattle.std.specs.Option.{option_map}
@@ -11,6 +11,8 @@ use Rattle.fq_pair.specs.declared.out.Out.{Out}
 use Rattle.fq_work.specs.declared.ends.WorkEnds.{WorkEnds}
 use Rattle.fq_work.specs.declared.ends.Worked.{Worked}
 use Rattle.fq_work.specs.declared.reply.Reply.{Reply}
+use Rattle.fq_tally.specs.declared.tally.Tally.{Tally}
+use Rattle.fq_run_core.specs.Totals.{tally_plus, ended}
 use Rattle.fq_run_core.specs.Choices.{Choices}
 use Rattle.fq_run.specs.lanes.Laying.{fresh, Laid, IsLaid, AreFor}
 use Rattle.fq_run.specs.crew.Workers.{Seated}
@@ -31,11 +33,12 @@ use Rattle.fq_run.specs.declared.lanes.Lanes.{Lanes}
 use Rattle.fq_run.specs.declared.ready.Ready.{Ready}
 use Rattle.fq_run.specs.declared.crew.Crew.{Crew}
 
--- the lanes of the workers and the start lane are new, and there is room for what is handed back
-pub record AreLaidOut (workers : ℕ) (lanes : Lanes) : Type 0 where
+-- the lanes and tallies of the workers and the start lane are new, and there is room for what is
+-- handed back
+pub record AreLaidOut (tallied : Bool) (workers : ℕ) (lanes : Lanes) : Type 0 where
   pub some : 0 < workers
   pub all : AreFor workers lanes.seats
-  pub laid : IsLaid lanes.seats
+  pub laid : IsLaid tallied lanes.seats
   pub start : lanes.start ≡ fresh lanes.starter.name
   pub starter : lanes.starter ≡ fresh lanes.starter.name
   pub closings : (lanes.closings.items ≡ []) × (workers ≤ vec_capacity lanes.closings)
@@ -44,12 +47,13 @@ pub record AreLaidOut (workers : ℕ) (lanes : Lanes) : Type 0 where
 
 -- what the dealer takes and what the calling thread keeps: new lanes for the workers, a new start
 -- lane, and room for what is handed back
-pub record IsReady {S : Type 0} (workers : ℕ) (dealer : Dealer S) (ready : Ready) : Type 0 where
+pub record IsReady {S : Type 0} (tallied : Bool) (workers : ℕ) (dealer : Dealer S)
+    (ready : Ready) : Type 0 where
   pub some : 0 < workers
   pub to : vec_len dealer.to ≡ workers
   pub ends : vec_len ready.ends ≡ workers
   pub replies : vec_len ready.replies ≡ workers
-  pub laid : Each3 Laid dealer.to.items ready.ends.items ready.replies.items
+  pub laid : Each3 (Laid tallied) dealer.to.items ready.ends.items ready.replies.items
   pub start : dealer.start ≡ fresh ready.starter.name
   pub starter : ready.starter ≡ fresh ready.starter.name
   pub closings : (dealer.closings.items ≡ []) × (workers ≤ vec_capacity dealer.closings)
@@ -66,20 +70,26 @@ pub record IsFresh (c : Choices) (s : SourceState) : Type 0 where
 pub record IsManned {S : Type 0} (crew : Crew S) (replies : List (History Reply)) : Type 0 where
   pub ends : List WorkEnds
   pub some : 0 < length replies
-  pub laid : Each3 Laid crew.dealer.promise.to.value.items ends replies
+  pub laid : Each3 (Laid crew.dealer.promise.settings.tallied)
+      crew.dealer.promise.to.value.items ends replies
   pub seated : AllZip
-      (Seated crew.dealer.promise.settings.tallied crew.dealer.promise.settings.steps crew.holds)
-      ends crew.hands.items
+      (Seated crew.dealer.promise.settings.steps crew.holds) ends crew.hands.items
   pub start : crew.dealer.promise.start.value ≡ fresh crew.starter.name
   pub starter : crew.starter ≡ fresh crew.starter.name
   pub worked : (crew.worked.items ≡ []) × (vec_len crew.hands ≤ vec_capacity crew.worked)
 
--- After the joins all lanes are confirmed, or one is not. Of the outcomes that occurred, the first
--- is returned.
+-- the tallies of workers, added to another in turn
+abbrev pub tallies_from : Option Tally → List Worked → Option Tally
+tallies_from tally [] = tally
+tallies_from tally (worked ∷ others) = tallies_from (tally_plus tally worked.tally) others
+
+-- After the joins the workers' tallies are added up. All lanes are confirmed, or one is not. Of the
+-- outcomes that occurred, the first is returned.
 pub record Concludes {S : Type 0} (started : Result (History (Unit {0})) NotEnded)
     (dealt : Dealt S) (worked : List Worked)
     (k : Collector) (failed : Option Out) (ending : Conclusion S) : Type 0 where
-  pub total : ending.total ≡ k.total
+  pub total : ending.total ≡ ended ending.outcome
+      (record { counts = k.total.counts; tally = tallies_from k.total.tally worked })
   pub source : ending.source ≡ Some dealt.source
   pub lane : IfSome ending.unended (λ unended. ending.outcome ≡ outcome.Lane)
   pub outcome_is : ending.unended ≡ None →

@@ -38,7 +38,8 @@ pub(crate) struct Collector {
     pub(crate) replies: Vec<CollectorEnds>,
     /// The worker whose reply is next.
     pub(crate) turn: usize,
-    /// The counts and the tally of the blocks that were written completely.
+    /// The counts of the blocks that were written completely. If a tally is asked for, also one of
+    /// no pairs.
     pub(crate) total: Total,
     /// What the collector is doing now, or why it stopped writing.
     pub(crate) phase: Phase,
@@ -142,11 +143,11 @@ impl Collector {
                 self.phase = Phase::Stopped;
             }
             Some(Reply::Done(done)) => {
-                if let Err(out) = outlets.write(done.texts()) {
+                if let Err(out) = outlets.write(&done.texts) {
                     self.phase = Phase::WriteFailed(out);
                     return;
                 }
-                self.total.add_packed(&done);
+                self.total.add(&done);
                 // Without room in the lane the texts are dropped.
                 let _ = ends.back.offer(done);
                 self.turn = next_turn(self.turn, lanes);

@@ -10,7 +10,8 @@ use fq_text::MemoryRefused;
 pub(crate) struct Conclusion<S> {
     /// How the run ended.
     pub(crate) outcome: Outcome,
-    /// The counts and the tally of the pairs whose block was written completely.
+    /// The counts of the pairs whose block was written completely, and the tally of the same pairs
+    /// if one is asked for and the run ended whole.
     pub(crate) total: Total,
     /// The source of the pairs, as the run left it. `None` if it was lost.
     pub(crate) source: Option<S>,
@@ -44,10 +45,10 @@ impl<S> Conclusion<S> {
     }
 
     /// The conclusion of a run whose threads could not all be started.
-    pub(crate) fn unstarted(total: Total, source: Option<S>) -> Conclusion<S>
+    pub(crate) fn unstarted(source: Option<S>) -> Conclusion<S>
         ensures { result ≡ record {
           outcome = Outcome.Spawn;
-          total = total;
+          total = no_total false;
           source = source;
           unended = None;
           refused = None;
@@ -55,7 +56,7 @@ impl<S> Conclusion<S> {
     {
         Conclusion {
             outcome: Outcome::Spawn,
-            total,
+            total: Total::without_tally(),
             source,
             unended: None,
             refused: None,

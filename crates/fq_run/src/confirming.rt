@@ -67,6 +67,7 @@ fn confirm_worker(
         mut rx,
         closing: replied,
         cause: _,
+        tally: _,
     } = worked;
     let mut replies = ends.replies;
     let blocks = closing?;

@@ -34,7 +34,7 @@ impl Lanes {
 
     /// Makes all lanes, and allocates the total.
     pub(crate) fn new(alloc: Global, settings: &Settings) -> Result<Lanes, MemoryRefused>
-        ensures lanes { IfOk result (AreLaidOut settings.now.workers) }
+        ensures lanes { IfOk result (AreLaidOut settings.now.tallied settings.now.workers) }
         ensures total { IfOk result (λ lanes. lanes.total ≡ no_total settings.now.tallied) }
     {
         let workers = settings.workers() as usize;
@@ -42,7 +42,12 @@ impl Lanes {
         Ok(Lanes {
             starter,
             start,
-            seats: lay(alloc, workers, settings.depth() as usize)?,
+            seats: lay(
+                alloc,
+                workers,
+                settings.depth() as usize,
+                settings.tallied(),
+            )?,
             closings: Vec::with_capacity(alloc, workers)?,
             hands: Vec::with_capacity(alloc, workers)?,
             worked: Vec::with_capacity(alloc, workers)?,

@@ -7,7 +7,7 @@ ghost use Rattle.fq_run.specs.Confirming.{CanConfirm};
 ghost use Rattle.fq_run_core.specs.Totals.{no_total};
 ghost use Rattle.fq_run_core.specs.Devices.{outlet_states, AreHealthy};
 ghost use Rattle.fq_run.specs.Each.{Each3};
-ghost use Rattle.fq_run.specs.Threads.{IsReady, IsFresh, IsManned, run_from, IsThreaded, Concludes};
+ghost use Rattle.fq_run.specs.Threads.{IsReady, tallies_from, IsFresh, IsManned, run_from, IsThreaded, Concludes};
 
 use crate::collector::ends::CollectorEnds;
 use crate::collector::{Collector, collect};
@@ -80,7 +80,7 @@ fn start<
     ready: Ready,
     outlets: &mut Outlets<O>,
 ) -> Conclusion<S>
-    requires ready { IsReady settings.now.workers dealer ready }
+    requires ready { IsReady settings.now.tallied settings.now.workers dealer ready }
     requires total { ready.total ≡ no_total settings.now.tallied }
     requires fresh { IsFresh settings.now (S.state dealer.source) }
     requires few { (S.state dealer.source).most_bytes ≤ text_limit }
@@ -99,7 +99,7 @@ fn start<
         replies,
     } = ready;
     let Some(dealer) = start_dealer(alloc, rt, settings, dealer) else {
-        return Conclusion::unstarted(total, None);
+        return Conclusion::unstarted(None);
     };
     let hands = match start_workers(alloc, rt, settings, gate, ends, hands) {
         Ok(hands) => hands,
@@ -109,7 +109,7 @@ fn start<
             let _ = starter.close();
             let source = dealer.join(rt).into_unread();
             let _ = join_workers(rt, started, worked);
-            return Conclusion::unstarted(total, source);
+            return Conclusion::unstarted(source);
         }
     };
     let crew = Crew {
@@ -156,7 +156,18 @@ fn attend<R: Threads + Wait, S: PairReader, O: Outlet>(
     conclude(started, dealt, worked, collector, failed)
 }
 
-// Confirms all lanes. Of several outcomes that occurred, returns the first.
+// Adds the tally of each worker to a total.
+fn add_tallies(total: &mut Total, worked: &Vec<Worked>)
+    ensures counts { total.new.counts ≡ total.old.counts }
+    ensures tally { total.new.tally ≡ tallies_from total.old.tally worked.now.items }
+{
+    for one in worked {
+        total.add_tally(&one.tally);
+    }
+}
+
+// Adds the workers' tallies, and confirms all lanes. Of several outcomes that occurred, returns the
+// first.
 fn conclude<S>(
     started: Result<End<()>, NotEnded>,
     dealt: Dealt<S>,
@@ -176,17 +187,18 @@ fn conclude<S>(
     } = dealt;
     let Collector {
         replies,
-        total,
+        mut total,
         halt,
         ..
     } = collector;
+    add_tallies(&mut total, &worked);
     let (outcome, unended) = match confirm(started, start, closings, worked, replies) {
         Ok(()) => (Occurred::new(halt, why, failed).outcome(), None),
         Err(unended) => (Outcome::Lane, Some(unended)),
     };
     Conclusion {
         outcome,
-        total,
+        total: total.at_end(outcome),
         source: Some(source),
         unended,
         refused: Occurred::new(halt, why, failed).refused(),

@@ -39,8 +39,9 @@ use std::thread::Threads;
 /// At the end all threads are joined and all lanes are confirmed: what one end received is what the
 /// other end sent. If several outcomes occurred, the run returns the first in the order of
 /// [`Outcome`]. At [`Outcome::Lane`] the ending has the lane's [`NotEnded`], and nothing is known
-/// of outputs and counts. At every other outcome the counts, and the tally if the settings ask for
-/// one, cover the pairs whose block was written completely.
+/// of outputs and counts. At every other outcome the counts cover the pairs whose block was written
+/// completely. At `Input` and `Finished` so does the tally, if the settings ask for one; at all
+/// other outcomes there is none.
 ///
 /// If memory is refused before the first thread starts, for the tally or for anything else, nothing
 /// is read or written. If a thread is refused, nothing is read or written either: no outlet is

@@ -3,10 +3,12 @@ use Rattle.std.proofs.Common.{◌≡◌, ◌-◌, ◌<◌, ◌≤◌, ◌^◌, O
 use Rattle.std.proofs.lemmas.List.{append-nil}
 use Rattle.fq_pair.specs.declared.out.Out.{Out}
 use Rattle.fq_pair.specs.Mates.{Mates}
+use Rattle.fq_pair.specs.Summaries.{capped}
 use Rattle.fq_pair.specs.Outputs.{Outputs, texts_of, text_of}
 use Rattle.fq_tally.specs.declared.done.Done.{Done}
+use Rattle.fq_tally.specs.declared.tally.Tally.{Tally}
 use Rattle.fq_run_core.specs.declared.total.Total.{Total}
-use Rattle.fq_run_core.specs.Totals.{total_of, no_total, total_plus}
+use Rattle.fq_run_core.specs.Totals.{total_of, no_total}
 use Rattle.fq_run_core.specs.declared.reading_end.ReadingEnd.{ReadingEnd}
 use Rattle.fq_run_core.specs.Choices.{Choices}
 use Rattle.fq_run_core.specs.Devices.{OutletStates, OutletsTook, part_at}
@@ -18,7 +20,7 @@ use Rattle.fq_run_core.specs.Gathering.{Gathers}
 use Rattle.fq_run_core.specs.Writing.{no_halt, Passes}
 use Rattle.fq_run_core.proofs.OutletLemmas.{all_took_none, all_took_then, all_took_same}
 use Rattle.fq_run_core.proofs.TextLemmas.{no_text, text_then, some_pair}
-use Rattle.fq_run_core.proofs.TotalLemmas.{no_total_is, total_added, is_counted}
+use Rattle.fq_run_core.proofs.TotalLemmas.{no_total_is, total_added, is_counted, is_cut}
 use Rattle.fq_run_core.proofs.WalkLemmas.{walks_none, walks_then, reads_then}
 use Rattle.fq_pair.proofs.SideLemmas.{walked_records}
 
@@ -44,15 +46,29 @@ module _ (c : Choices) (old : SourceState) (before : OutletStates) where
     goes = goes;
   }
 
-  module _ {now next : SourceState} {after : OutletStates} {counted : Total} {done : Done}
-      {why : Option ReadingEnd} where
+  -- the blocks before and this one
+  took_block : {now next : SourceState} {after then : OutletStates} {counted : Total}
+      {t u : Option Tally} {done : Done} {why : Option ReadingEnd} (w : Wrote now after counted)
+      (g : Gathers now next c.steps c.block_pairs t u done why) →
+      OutletsTook after then (λ out. text_of out done.texts) None →
+      OutletsTook before then (λ out. text_of out (texts_of c.steps (w.whole ++ g.block))) None
+  took_block {now} {next} {after} {then} {counted} {t} {u} {done} {why} w g p =
+      let same =
+      λ (out : Out). ap (λ (t : Outputs). text_of out (texts_of c.steps w.whole) ++ text_of
+      out t) g.texts ∙ sym (text_then c.steps w.whole g.block out) in
+      all_took_same before then _ _ None same
+      (all_took_then before after then (λ out. text_of out (texts_of c.steps w.whole))
+      (λ out. text_of out done.texts) None w.took p)
+
+  module _ {now next : SourceState} {after : OutletStates} {counted total : Total}
+      {done : Done} {why : Option ReadingEnd} where
     -- a write failed in a block
     pub passes_broken : {then : OutletStates} (failed : Out) → Wrote now after counted →
-        Gathers now next c.tallied c.steps c.block_pairs done why →
-        BreaksAt after then done.texts failed →
-        (total : Total) → total ≡ counted → Passes c old next before then total no_halt why
+        Gathers now next c.steps c.block_pairs counted.tally total.tally done why →
+        BreaksAt after then done.texts failed → total.counts ≡ counted.counts →
+        Passes c old next before then total no_halt why
         (Some failed)
-    passes_broken {then} failed w g p total is =
+    passes_broken {then} failed w g p is =
         let P : List Mates → Type 0 = λ ms. Reads old next ms why in
         let same =
         λ (out : Out). ap (λ (t : Outputs). text_of out (texts_of c.steps w.whole) ++ part_at
@@ -63,7 +79,8 @@ module _ (c : Choices) (old : SourceState) (before : OutletStates) where
           whole = w.whole;
           fate = WriteFailed failed p.sent g.block;
           missed = [];
-          counts = is_counted c w.whole no_halt why total (is ∙ w.counts);
+          counts = is_cut c w.whole no_halt why failed total
+              (is ∙ ap (λ (t : Total). t.counts) w.counts);
           reads = subst P (sym (append-nil (w.whole ++ g.block)))
               (reads_then old now next w.whole g.block why w.walks g.reads);
           took = all_took_same before then _ _ (Some failed) same
@@ -77,45 +94,34 @@ module _ (c : Choices) (old : SourceState) (before : OutletStates) where
           missed_none = λ sound none. refl;
         }
 
-    -- the blocks before and this one
-    took_block : {then : OutletStates} (w : Wrote now after counted)
-        (g : Gathers now next c.tallied c.steps c.block_pairs done why) →
-        OutletsTook after then (λ out. text_of out done.texts) None →
-        OutletsTook before then (λ out. text_of out (texts_of c.steps (w.whole ++ g.block))) None
-    took_block {then} w g p =
-        let same =
-        λ (out : Out). ap (λ (t : Outputs). text_of out (texts_of c.steps w.whole) ++ text_of
-        out t) g.texts ∙ sym (text_then c.steps w.whole g.block out) in
-        all_took_same before then _ _ None same
-        (all_took_then before after then (λ out. text_of out (texts_of c.steps w.whole))
-        (λ out. text_of out done.texts) None w.took p)
-
     counts_block : (w : Wrote now after counted)
-        (g : Gathers now next c.tallied c.steps c.block_pairs done why) → old.forward.given ≡ 0 →
+        (g : Gathers now next c.steps c.block_pairs counted.tally total.tally done why) →
+        old.forward.given ≡ 0 →
         old.most_bytes ≤ 2 ^ 60 → c.block_pairs ≤ 65536 →
-        total_plus counted done ≡ total_of c.tallied c.steps (w.whole ++ g.block)
-    counts_block w g none few most =
+        total.counts ≡ capped counted.counts done.texts.counts →
+        total ≡ total_of c.tallied c.steps (w.whole ++ g.block)
+    counts_block w g none few most is =
         let walks = w.walks in let records = walked_records old now w.whole walks in let same =
         walks.same in let bytes = same.most_bytes in let goes = w.goes in let within =
         goes.within in let block = g.few in
-        total_added c.tallied c.steps w.whole g.block counted done w.counts g.texts g.tally
-        (omega arith)
+        total_added c.tallied c.steps w.whole g.block counted total done w.counts g.texts is
+        g.tallied (omega arith)
 
     -- the last block is written
     pub passes_whole : {then : OutletStates} → Wrote now after counted →
-        Gathers now next c.tallied c.steps c.block_pairs done why →
+        Gathers now next c.steps c.block_pairs counted.tally total.tally done why →
         OutletsTook after then (λ out. text_of out done.texts) None →
         old.forward.given ≡ 0 → old.most_bytes ≤ 2 ^ 60 → c.block_pairs ≤ 65536 → (why ≡ None → ⊥) →
-        (total : Total) → total ≡ total_plus counted done →
+        total.counts ≡ capped counted.counts done.texts.counts →
         Passes c old next before then total no_halt why None
-    passes_whole {then} w g p none few most stopped total is =
+    passes_whole {then} w g p none few most stopped is =
         let P : List Mates → Type 0 = λ ms. Reads old next ms why in
         record {
           whole = w.whole ++ g.block;
           fate = Unbroken;
           missed = [];
-          counts = is_counted c (w.whole ++ g.block) no_halt why total (is
-              ∙ counts_block w g none few most);
+          counts = is_counted c (w.whole ++ g.block) no_halt why None total
+              (counts_block w g none few most is);
           reads = subst P (sym (append-nil ((w.whole ++ g.block) ++ [])
               ∙ append-nil (w.whole ++ g.block)))
               (reads_then old now next w.whole g.block why w.walks g.reads);
@@ -131,28 +137,28 @@ module _ (c : Choices) (old : SourceState) (before : OutletStates) where
 
     -- another block is written, and more may come
     pub wrote_more : {then : OutletStates} → Wrote now after counted →
-        Gathers now next c.tallied c.steps c.block_pairs done why →
+        Gathers now next c.steps c.block_pairs counted.tally total.tally done why →
         OutletsTook after then (λ out. text_of out done.texts) None →
         old.forward.given ≡ 0 → old.most_bytes ≤ 2 ^ 60 → c.block_pairs ≤ 65536 → why ≡ None →
-        (total : Total) → total ≡ total_plus counted done →
+        total.counts ≡ capped counted.counts done.texts.counts →
         Wrote next then total
-    wrote_more {then} w g p none few most going total is =
+    wrote_more {then} w g p none few most going is =
         let P : Option ReadingEnd → Type 0 = λ o. Reads now next g.block o in
         record {
           whole = w.whole ++ g.block;
-          counts = is ∙ counts_block w g none few most;
+          counts = counts_block w g none few most is;
           walks = walks_then old now next w.whole g.block w.walks (subst P going g.reads);
           took = took_block w g p;
           goes = g.goes going;
         }
 
   -- each block brings the end nearer
-  pub nearer : {now next : SourceState} {after : OutletStates} {counted : Total} {done : Done}
-      {why : Option ReadingEnd} → Wrote now after counted →
-      Gathers now next c.tallied c.steps c.block_pairs done why →
+  pub nearer : {now next : SourceState} {after : OutletStates} {counted : Total}
+      {t u : Option Tally} {done : Done} {why : Option ReadingEnd} → Wrote now after counted →
+      Gathers now next c.steps c.block_pairs t u done why →
       1 ≤ c.block_pairs → why ≡ None → old.most_bytes - next.forward.given < old.most_bytes -
       now.forward.given
-  nearer {now} {next} {after} {counted} {done} {why} w g some going =
+  nearer {now} {next} {after} {counted} {t} {u} {done} {why} w g some going =
       let P : Option ReadingEnd → Type 0 = λ o. Reads now next g.block o in
       let reads : Walks now next g.block = subst P going g.reads in
       let full = g.full going in let goes = g.goes going in let within = goes.within in

@@ -1,5 +1,5 @@
 -- What a run guarantees, from what it read and wrote.
-use Rattle.std.proofs.Common.{◌≡◌, ◌≤◌, ◌⊎◌, inl, inr, true, false, IsTrue, Option, Some, None, List, [], ◌++◌, length, ⊎_elim, refl, sym, ap, subst, ◌∙◌, arith, append_assoc}
+use Rattle.std.proofs.Common.{◌&&◌, ◌≡◌, ◌≤◌, ◌⊎◌, inl, inr, true, false, IsTrue, Option, Some, None, List, [], ◌++◌, length, refl, sym, ap, subst, ◌∙◌, arith, append_assoc}
 use Rattle.std.proofs.lemmas.List.{append-nil}
 use Rattle.fq_text.specs.Lines.{whole_part}
 use Rattle.fq_text.specs.Records.{records}
@@ -29,18 +29,23 @@ use Rattle.fq_run_core.specs.Devices.{gave, OutletStates, AreFlushed, OutletsToo
 use Rattle.fq_run_core.specs.Fates.{Fate, Unbroken, FlushFailed, WriteFailed, failed_outlet, block_begun, part_begun, IsCutShort}
 use Rattle.fq_pair.specs.Walks.{SourceState, fed}
 use Rattle.fq_run_core.specs.PairsRead.{Reads, fresh_side, fresh_source, feed_in}
-use Rattle.fq_run_core.specs.Writing.{no_halt, IsCounted, Passes, FlushesAfter, is_flush}
+use Rattle.fq_run_core.specs.Writing.{no_halt, IsCounted, Passes, FlushesAfter, is_flush, wants_memory}
+use Rattle.fq_run_core.specs.Totals.{tally_at}
+use Rattle.fq_run_core.proofs.TotalLemmas.{recounted, none_at, whole_at, kept_at, not_memory}
 use Rattle.fq_run_core.specs.Endings.{Run, AreTold, all_pairs, trimmed_outcome, IsTrimmed, ends_whole, feed_of, feed_left, gave_to, failures_in, IsCutOff, pairs_given, IsNext, IsAllThatCame, AreFirst, IsJustified, EveryEnding}
 use Rattle.fq_run_core.proofs.OutletLemmas.{all_took_then, all_took_same}
 use Rattle.fq_run_core.proofs.ReadingLemmas.{failed_by, gave_is, gave_length, fed_back, reads_first, reads_end, reads_fault, reads_forward, reads_reverse, reads_cut, reads_next}
-use Rattle.fq_run_core.proofs.VerdictLemmas.{Kind, OfText, OfRead, OfEndless, OfMemory, kind, Verdict, IsRefused, WantsMemory, FailedAt, CannotRead, HasNoEnd, HasFault, IsOver, read_once, failed_once, not_spawn, at_write, at_read, at_endless, outlet_first, feed_first, lacks_memory, at_refusal}
+use Rattle.fq_run_core.proofs.VerdictLemmas.{Kind, OfText, OfRead, OfEndless, OfMemory, kind, Verdict, IsRefused, WantsMemory, FailedAt, CannotRead, HasNoEnd, HasFault, IsOver, read_once, failed_once, not_spawn, at_write, at_read, at_endless, outlet_first, feed_first, lacks_memory}
 
--- What is counted of pairs is counted of the same pairs, if it isn't lost. On plain variables: the
--- parts of a tally are many, and would be compared one by one.
-counted_same : {A B Lost : Type 0} (f : A → B) (x : B) (ms ns : A) → ms ≡ ns → (Lost → ⊥) →
-    (x ≡ f ms) ⊎ Lost → x ≡ f ns
-counted_same f x ms ns same never is = ⊎_elim (λ now. now ∙ ap f same) (λ lost. absurd (never lost))
-    is
+-- What is counted of pairs is counted of the same pairs. On plain variables: the parts of a tally
+-- are many, and would be compared one by one.
+counted_same : {A B : Type 0} (f : A → B) (x : B) (ms ns : A) → ms ≡ ns → x ≡ f ms → x ≡ f ns
+counted_same f x ms ns same is = is ∙ ap f same
+
+-- plain trimming ends at the end of the input, or at a fault in it
+whole_trimmed : (fault : Option InputFault) → ends_whole (trimmed_outcome fault) ≡ true
+whole_trimmed None = refl
+whole_trimmed (Some fault) = refl
 
 -- pairs were read and written, and the outlets flushed
 pub record Closes (c : Choices) (old new : SourceState) (before after : OutletStates)
@@ -50,7 +55,7 @@ pub record Closes (c : Choices) (old new : SourceState) (before after : OutletSt
   pub fate : Fate
   -- the pairs that were read after these, and of which no text was written
   pub missed : List Mates
-  pub counts : IsCounted c whole halt why counted
+  pub counts : IsCounted c whole halt why broken counted
   pub reads : Reads old new ((whole ++ block_begun fate) ++ missed) why
   pub took : OutletsTook before after (λ out. text_of out (texts_of c.steps whole) ++ part_begun
       c.steps fate out) (failed_outlet fate)
@@ -67,7 +72,7 @@ pub record Closes (c : Choices) (old new : SourceState) (before after : OutletSt
 module _ (c : Choices) (old new : SourceState) (before mid after : OutletStates) (counted : Total)
     (halt : Halt) (why : Option ReadingEnd) where
   -- if no write failed
-  flushed : (whole missed : List Mates) → IsCounted c whole halt why counted →
+  flushed : (whole missed : List Mates) → IsCounted c whole halt why None counted →
       Reads old new ((whole ++ []) ++ missed) why →
       OutletsTook before mid (λ out. text_of out (texts_of c.steps whole) ++ []) None →
       (why ≡ None → ⊥) → (halt ≡ no_halt → missed ≡ []) → (failed : Option Out) →
@@ -93,7 +98,7 @@ module _ (c : Choices) (old new : SourceState) (before mid after : OutletStates)
     whole = whole;
     fate = FlushFailed out;
     missed = missed;
-    counts = counts;
+    counts = recounted c whole halt why None (Some out) counted (λ none. refl) counts;
     reads = reads;
     took = all_took_same before after (λ out. (text_of out (texts_of c.steps whole) ++ []) ++ []) _
         (Some out) (λ out. append-nil (text_of out (texts_of c.steps whole) ++ []))
@@ -108,8 +113,8 @@ module _ (c : Choices) (old new : SourceState) (before mid after : OutletStates)
   }
 
   by_fate : (fate : Fate) (broken failed : Option Out) (whole missed : List Mates) →
-      IsCounted c whole halt why counted → Reads old new ((whole ++ block_begun fate) ++ missed)
-      why →
+      IsCounted c whole halt why broken counted →
+      Reads old new ((whole ++ block_begun fate) ++ missed) why →
       OutletsTook before mid (λ out. text_of out (texts_of c.steps whole) ++ part_begun c.steps fate
       out) (failed_outlet fate) → broken ≡ failed_outlet fate →
       IsCutShort c.block_pairs c.steps fate → (why ≡ None → broken ≡ None → ⊥) →
@@ -117,7 +122,9 @@ module _ (c : Choices) (old new : SourceState) (before mid after : OutletStates)
       FlushesAfter broken mid after failed → Closes c old new before after counted halt why failed
   by_fate Unbroken broken failed whole missed counts reads took is short over unflushed none p =
       let P : Option Out → Type 0 = λ b. FlushesAfter b mid after failed in
-      flushed whole missed counts reads took (λ going. over going is) (λ sound. none sound is)
+      flushed whole missed
+      (subst (λ (b : Option Out). IsCounted c whole halt why b counted) is counts) reads took
+      (λ going. over going is) (λ sound. none sound is)
       failed (subst P is p)
   by_fate (FlushFailed out) broken failed whole missed counts reads took is short over unflushed
       none p = absurd cc
@@ -132,7 +139,8 @@ module _ (c : Choices) (old new : SourceState) (before mid after : OutletStates)
         whole = whole;
         fate = WriteFailed out sent block;
         missed = missed;
-        counts = counts;
+        counts = subst (λ (b : Option Out). IsCounted c whole halt why b counted) (is ∙ sym q.0)
+            counts;
         reads = reads;
         took = subst T (sym q.1) took;
         failed = q.0;
@@ -178,7 +186,7 @@ module _ (form : Form) (c : Choices) (f r : FeedState) (new : SourceState)
         after;
     outcome = o;
     counts = counted.counts;
-    tally = counted.tally;
+    tally = tally_at o counted.tally;
   }
 
   -- all pairs that were read
@@ -326,14 +334,32 @@ module _ (form : Form) (c : Choices) (f r : FeedState) (new : SourceState)
         came why refl told (ap is_flush is) (whole_is q.1 (FlushFailed out) is refl) out at;
   }
 
+  -- the tally is that of the pairs that were written, if the run ended whole
+  tally_is : Verdict halt why failed o → tally_at o counted.tally
+      ≡ tally_if (c.tallied && ends_whole o) c.steps p.whole
+  tally_is (IsRefused there is) = none_at _ c.tallied counted.tally c.steps p.whole
+      (ap ends_whole is)
+  tally_is (WantsMemory is) = none_at _ c.tallied counted.tally c.steps p.whole (ap ends_whole is)
+  tally_is (FailedAt x there going enough is) =
+      none_at _ c.tallied counted.tally c.steps p.whole (ap ends_whole is)
+  tally_is (CannotRead x none going there is) =
+      none_at _ c.tallied counted.tally c.steps p.whole (ap ends_whole is)
+  tally_is (HasNoEnd x none going there is) =
+      none_at _ c.tallied counted.tally c.steps p.whole (ap ends_whole is)
+  tally_is (HasFault fault none going there inside is) =
+      whole_at _ c.tallied counted.tally c.steps p.whole (ap ends_whole is)
+      (p.counts.tally going none (ap wants_memory there))
+  tally_is (IsOver none going there is) =
+      whole_at _ c.tallied counted.tally c.steps p.whole (ap ends_whole is)
+      (p.counts.tally going none (ap wants_memory there))
+
   -- what holds at every ending
   pub every : EveryEnding c run
   every = record {
     whole = p.whole;
     fate = p.fate;
     counts = p.counts.counts;
-    tally = ⊎_elim inl (λ none. inr (none.0, at_refusal halt why failed o none.1 none.2 v))
-        p.counts.tally;
+    tally = tally_is v;
     took = p.took;
     flushed = λ none started. p.flushed (p.failed ∙ none);
     cut_short = p.cut_short;
@@ -365,8 +391,9 @@ module _ (form : Form) (c : Choices) (f r : FeedState) (new : SourceState)
             ∙ ap (λ ms. text_of out (texts_of c.steps ms)) same) (subst P sound_is p.took);
         flushed = p.flushed none;
         counts = p.counts.counts ∙ ap (counts_of c.steps) same;
-        tally = counted_same (tally_if c.tallied c.steps) counted.tally p.whole
-            (all_pairs c run).mates same (λ lost. enough lost.2) p.counts.tally;
+        tally = kept_at (ends_whole o) counted.tally (ap ends_whole is ∙ whole_trimmed fault)
+            ∙ counted_same (tally_if c.tallied c.steps) counted.tally p.whole
+            (all_pairs c run).mates same (p.counts.tally going none (not_memory why enough));
         outcome = is ∙ ap trimmed_outcome (sym (ap (λ (q : Pairs). q.fault) all));
       }
 

@@ -10,8 +10,8 @@ use Rattle.fq_pair.specs.Mates.{Mates, mates_in}
 use Rattle.fq_pair.specs.Outputs.{texts_of}
 use Rattle.fq_tally.specs.declared.tally.Tally.{Tally}
 use Rattle.fq_tally.specs.declared.done.Done.{Done}
-use Rattle.fq_tally.specs.Results.{tally_if, made_of, with_mates}
-use Rattle.fq_tally.proofs.ResultLemmas.{is_asked, made_more}
+use Rattle.fq_tally.specs.Results.{tally_with, made_of, with_mates}
+use Rattle.fq_tally.proofs.ResultLemmas.{made_more, with_nothing, with_more}
 use Rattle.fq_run_core.specs.declared.reading_end.ReadingEnd.{ReadingEnd}
 use Rattle.fq_run_core.specs.declared.reading_end.ReadingEnd.TheVariants as reading
 use Rattle.fq_pair.specs.Walks.{SourceState, Walks, MeetsEnd, MeetsFault, GoesOn}
@@ -32,35 +32,39 @@ ok_says (Ok x) refused P is no_is p = p
 ok_says (Err x) refused P is no_is p = absurd (let e = sym is ∙ no_is in cc)
 
 -- this number of pairs was read and trimmed
-pub record Gathered (old now : SourceState) (tallied : Bool) (steps : List Step) (gathered : Done)
-    (n : ℕ) : Type 0 where
+pub record Gathered (old now : SourceState) (steps : List Step) (tally tally_now : Option Tally)
+    (gathered : Done) (n : ℕ) : Type 0 where
   pub block : List Mates
   pub len : length block ≡ n
   -- the texts and the tally are those of these pairs
-  pub made : gathered ≡ made_of tallied steps gathered.number block
+  pub made : gathered ≡ made_of steps gathered.number block
+  pub tallied : tally_now ≡ tally_with steps tally block
   pub walks : Walks old now block
   pub goes : GoesOn now
 
-module _ (tallied : Bool) (steps : List Step) where
+module _ (steps : List Step) (tally : Option Tally) where
   -- before the first pair the texts and the tally are those of no pairs
   pub gathered_none : (s : SourceState) (done : Done) → GoesOn s →
-      done ≡ made_of tallied steps done.number [] → Gathered s s tallied steps done 0
+      done ≡ made_of steps done.number [] → Gathered s s steps tally tally done 0
   gathered_none s done goes clear = record {
     block = [];
     len = refl;
     made = clear;
+    tallied = sym (with_nothing steps tally);
     walks =
         walks_none s goes.last;
     goes = goes;
   }
 
   -- one more pair is read, and its texts and its tally are added
-  pub gathered_more : (old now next : SourceState) (done then : Done) (n : ℕ) (m : Mates) →
-      Gathered old now tallied steps done n → Walks now next (m ∷ []) →
+  pub gathered_more : (old now next : SourceState) (t u : Option Tally) (done then : Done) (n : ℕ)
+      (m : Mates) → Gathered old now steps tally t done n → Walks now next (m ∷ []) →
       next.forward.given ≤ next.most_bytes → (forward reverse : Read) → forward ≡ m.forward →
       reverse ≡ m.reverse → then ≡ with_mates steps done (mates_in forward reverse) →
-      Gathered old next tallied steps then (n + 1)
-  gathered_more old now next done then n m g w within forward reverse first second added =
+      u ≡ tally_with steps t (mates_in forward reverse ∷ []) →
+      Gathered old next steps tally u then (n + 1)
+  gathered_more old now next t u done then n m g w within forward reverse first second added
+      counted =
       let len = g.len in
       let is : then ≡ with_mates steps done m = added
       ∙ ap (λ r. with_mates steps done (mates_in r reverse)) first
@@ -70,33 +74,34 @@ module _ (tallied : Bool) (steps : List Step) where
         block = g.block ++ m ∷ [];
         len = omega (arith, length-append g.block (m ∷ []));
         made = is ∙ ap (λ (d : Done). with_mates steps d m) g.made
-            ∙ made_more tallied steps done.number g.block m
-            ∙ ap (λ (i : ℕ). made_of tallied steps i (g.block ++ m ∷ [])) number;
+            ∙ made_more steps done.number g.block m
+            ∙ ap (λ (i : ℕ). made_of steps i (g.block ++ m ∷ [])) number;
+        tallied = counted ∙ ap (λ r. tally_with steps t (mates_in r reverse ∷ [])) first
+            ∙ ap (λ r. tally_with steps t (mates_in m.forward r ∷ [])) second
+            ∙ ap (λ (x : Option Tally). tally_with steps x (m ∷ [])) g.tallied
+            ∙ with_more steps tally g.block (m ∷ []);
         walks = walks_then old now next g.block (m ∷ []) g.walks w;
         goes = record { last = w.last; within = within };
       }
 
   -- the texts count as many pairs as were read
-  pub gathered_few : (old now : SourceState) (done : Done) (n : ℕ) →
-      Gathered old now tallied steps done n → done.texts.counts.pairs ≡ n
-  gathered_few old now done n g = ap (λ (d : Done). d.texts.counts.pairs) g.made ∙ g.len
+  pub gathered_few : (old now : SourceState) (t : Option Tally) (done : Done) (n : ℕ) →
+      Gathered old now steps tally t done n → done.texts.counts.pairs ≡ n
+  gathered_few old now t done n g = ap (λ (d : Done). d.texts.counts.pairs) g.made ∙ g.len
 
-  -- its texts and its tally
-  texts_are : (old now : SourceState) (done : Done) (n : ℕ)
-      (g : Gathered old now tallied steps done n) → done.texts ≡ texts_of steps g.block
-  texts_are old now done n g = ap (λ (d : Done). d.texts) g.made
-
-  tally_is : (old now : SourceState) (done : Done) (n : ℕ)
-      (g : Gathered old now tallied steps done n) → done.tally ≡ tally_if tallied steps g.block
-  tally_is old now done n g = ap (λ (d : Done). d.tally) g.made
+  -- its texts
+  texts_are : (old now : SourceState) (t : Option Tally) (done : Done) (n : ℕ)
+      (g : Gathered old now steps tally t done n) → done.texts ≡ texts_of steps g.block
+  texts_are old now t done n g = ap (λ (d : Done). d.texts) g.made
 
   -- the block is full, and reading goes on
-  pub gathers_full : (old now : SourceState) (done : Done) (n most : ℕ) → n ≡ most →
-      Gathered old now tallied steps done n → Gathers old now tallied steps most done None
-  gathers_full old now done n most full g = let len = g.len in record {
+  pub gathers_full : (old now : SourceState) (t : Option Tally) (done : Done) (n most : ℕ) →
+      n ≡ most → Gathered old now steps tally t done n →
+      Gathers old now steps most tally t done None
+  gathers_full old now t done n most full g = let len = g.len in record {
     block = g.block;
-    texts = texts_are old now done n g;
-    tally = tally_is old now done n g;
+    texts = texts_are old now t done n g;
+    tallied = g.tallied;
     few = omega arith;
     full = λ going. g.len ∙ full;
     reads = g.walks;
@@ -104,13 +109,13 @@ module _ (tallied : Bool) (steps : List Step) where
   }
 
   -- reading stopped after the block
-  gathers_stopped : (old now next : SourceState) (done : Done) (n most : ℕ) (stop : ReadingEnd) →
-      n < most → (g : Gathered old now tallied steps done n) → Reads old next g.block (Some stop) →
-      Gathers old next tallied steps most done (Some stop)
-  gathers_stopped old now next done n most stop room g reads = let len = g.len in record {
+  gathers_stopped : (old now next : SourceState) (t : Option Tally) (done : Done) (n most : ℕ)
+      (stop : ReadingEnd) → n < most → (g : Gathered old now steps tally t done n) →
+      Reads old next g.block (Some stop) → Gathers old next steps most tally t done (Some stop)
+  gathers_stopped old now next t done n most stop room g reads = let len = g.len in record {
     block = g.block;
-    texts = texts_are old now done n g;
-    tally = tally_is old now done n g;
+    texts = texts_are old now t done n g;
+    tallied = g.tallied;
     few = omega arith;
     full = λ going. absurd cc;
     reads = reads;
@@ -118,48 +123,44 @@ module _ (tallied : Bool) (steps : List Step) where
   }
 
   -- the end of the input was found before the block was full
-  pub gathers_end : (old now next : SourceState) (done : Done) (n most : ℕ) → n < most →
-      Gathered old now tallied steps done n → MeetsEnd now next →
-      Gathers old next tallied steps most done (Some reading.End)
-  gathers_end old now next done n most room g e =
-      gathers_stopped old now next done n most reading.End room g (now, g.walks, e)
+  pub gathers_end : (old now next : SourceState) (t : Option Tally) (done : Done) (n most : ℕ) →
+      n < most → Gathered old now steps tally t done n → MeetsEnd now next →
+      Gathers old next steps most tally t done (Some reading.End)
+  gathers_end old now next t done n most room g e =
+      gathers_stopped old now next t done n most reading.End room g (now, g.walks, e)
 
   -- a fault was found before the block was full
-  pub gathers_fault : (old now next : SourceState) (done : Done) (n most : ℕ) (why : InputFault) →
-      n < most → Gathered old now tallied steps done n → MeetsFault now next why →
-      Gathers old next tallied steps most done (Some (reading.Fault why))
-  gathers_fault old now next done n most why room g e =
-      gathers_stopped old now next done n most (reading.Fault why) room g (now, g.walks, e)
+  pub gathers_fault : (old now next : SourceState) (t : Option Tally) (done : Done) (n most : ℕ)
+      (why : InputFault) → n < most → Gathered old now steps tally t done n →
+      MeetsFault now next why →
+      Gathers old next steps most tally t done (Some (reading.Fault why))
+  gathers_fault old now next t done n most why room g e =
+      gathers_stopped old now next t done n most (reading.Fault why) room g (now, g.walks, e)
 
   -- memory for one more pair was refused: that pair is lost, and the block is as it was
-  pub gathers_refused : (old now next : SourceState) (done then : Done) (n most : ℕ) (m : Mates) →
-      n < most → Gathered old now tallied steps done n → Walks now next (m ∷ []) →
-      then ≡ done → Gathers old next tallied steps most then (Some reading.Memory)
-  gathers_refused old now next done then n most m room g w same =
-      let P : Done → Type 0 = λ d. Gathers old next tallied steps most d (Some reading.Memory) in
-      subst P (sym same) (gathers_stopped old now next done n most reading.Memory room g (
+  pub gathers_refused : (old now next : SourceState) (t u : Option Tally) (done then : Done)
+      (n most : ℕ) (m : Mates) → n < most → Gathered old now steps tally t done n →
+      Walks now next (m ∷ []) → then ≡ done → u ≡ t →
+      Gathers old next steps most tally u then (Some reading.Memory)
+  gathers_refused old now next t u done then n most m room g w same kept =
+      let P : Done → Type 0 =
+      λ d. Gathers old next steps most tally u d (Some reading.Memory) in
+      let Q : Option Tally → Type 0 =
+      λ x. Gathers old next steps most tally x done (Some reading.Memory) in
+      subst P (sym same) (subst Q (sym kept)
+      (gathers_stopped old now next t done n most reading.Memory room g (
         m ∷ [],
         walks_then old now next g.block (m ∷ []) g.walks w,
-      ))
+      )))
 
--- equal flags, steps and bounds may be exchanged
-pub gathers_as : {old new : SourceState} {tallied tallied' : Bool} {steps steps' : List Step}
-    {most most' : ℕ} {done : Done} {why : Option ReadingEnd} →
-    tallied' ≡ tallied → steps' ≡ steps → most' ≡ most →
-    Gathers old new tallied' steps' most' done why → Gathers old new tallied steps most done why
-gathers_as {old} {new} {tallied} {tallied'} {steps} {steps'} {most} {most'} {done} {why} asked same
-    bound g =
-    let O : Bool → Type 0 = λ b. Gathers old new b steps most done why in
-    let P : List Step → Type 0 = λ s. Gathers old new tallied' s most done why in
-    let Q : ℕ → Type 0 = λ n. Gathers old new tallied' steps' n done why in
-    subst O asked (subst P same (subst Q bound g))
-
--- what was gathered has a tally if one was asked for
-pub gathered_asked : (old new : SourceState) (tallied : Bool) (steps : List Step) (most : ℕ)
-    (done : Done) (why : Option ReadingEnd) → Gathers old new tallied steps most done why →
-    is_some done.tally ≡ tallied
-gathered_asked old new tallied steps most done why g = ap (λ (t : Option Tally). is_some t) g.tally
-    ∙ is_asked tallied steps g.block
+-- equal steps and bounds may be exchanged
+pub gathers_as : {old new : SourceState} {steps steps' : List Step} {most most' : ℕ}
+    {t u : Option Tally} {done : Done} {why : Option ReadingEnd} → steps' ≡ steps → most' ≡ most →
+    Gathers old new steps' most' t u done why → Gathers old new steps most t u done why
+gathers_as {old} {new} {steps} {steps'} {most} {most'} {t} {u} {done} {why} same bound g =
+    let P : List Step → Type 0 = λ s. Gathers old new s most t u done why in
+    let Q : ℕ → Type 0 = λ n. Gathers old new steps' n t u done why in
+    subst P same (subst Q bound g)
 
 -- why reading stopped, if it did
 pub end_is : (why : Option ReadingEnd) (there : Bool) → there ≡ is_some why → there ≡ true →

@@ -1,5 +1,5 @@
 -- From the feeds to the outlets.
-use Rattle.std.proofs.Common.{◌≡◌, false, inr, Option, Some, None, [], ◌++◌, refl, sym, ap, subst, ◌∙◌}
+use Rattle.std.proofs.Common.{◌≡◌, false, Option, Some, None, [], ◌++◌, refl, sym, ap, subst, ◌∙◌}
 use Rattle.fq_pair.specs.declared.out.Out.{Out}
 use Rattle.fq_pair.specs.Outputs.{text_of, texts_of}
 use Rattle.fq_run_core.specs.declared.halt.Halt.{Halt}
@@ -30,8 +30,7 @@ passes_refused c old o counted goes none = record {
   missed = [];
   counts = record {
     counts = ap (λ (t : Total). t.counts) none;
-    tally =
-        inr (ap (λ (t : Total). t.tally) none, refl, refl);
+    tally = λ going sound enough. absurd cc;
   };
   reads = ([], walks_none old goes);
   took = all_took_same o o (λ out. []) _ None (λ out. sym (no_more out)) (all_took_none o);

@@ -14,6 +14,7 @@ use Rattle.fq_run_core.specs.Fates.{part_begun}
 use Rattle.fq_pair.specs.Forms.{Form}
 use Rattle.fq_run_core.specs.PairsRead.{fresh_source, feed_in}
 use Rattle.fq_run_core.specs.Writing.{no_halt, Runs, FlushesAfter, occurred}
+use Rattle.fq_run_core.specs.Totals.{ended}
 use Rattle.fq_run_core.specs.Endings.{Run, AreTold, ends_whole, IsTrimmed, EveryEnding}
 use Rattle.fq_run_core.proofs.OutletLemmas.{still_healthy}
 use Rattle.fq_run_core.proofs.VerdictLemmas.{Verdict, verdict, least, is_serial}
@@ -32,7 +33,8 @@ module _ (form : Form) (c : Choices) (f r f' r' : FeedState) (before mid : Outle
 
   module _ (after : OutletStates) (failed : Option Out) (o : Outcome)
       (q : FlushesAfter broken mid after failed) (is : o ≡ outcome_of (occurred halt why failed))
-      (sound : f.failures ≡ 0) (sound' : r.failures ≡ 0) where
+      (sound : f.failures ≡ 0) (sound' : r.failures ≡ 0) (total : Total)
+      (at_end : total ≡ ended o counted) where
     -- the run
     abbrev pub run_with : FeedState → FeedState → Run
     run_with x y = record {
@@ -45,9 +47,23 @@ module _ (form : Form) (c : Choices) (f r f' r' : FeedState) (before mid : Outle
       reverse_left = Some y;
       outlets_left = after;
       outcome = o;
-      counts =
-          counted.counts;
-      tally = counted.tally;
+      counts = total.counts;
+      tally = total.tally;
+    }
+
+    -- the run, with what it returns of what it counted
+    abbrev run_at : Total → FeedState → FeedState → Run
+    run_at t x y = record {
+      form = form;
+      forward = f;
+      reverse = r;
+      outlets = before;
+      forward_left = Some x;
+      reverse_left = Some y;
+      outlets_left = after;
+      outcome = o;
+      counts = t.counts;
+      tally = t.tally;
     }
 
     closed : Closes c (fresh_source form c f r) p.new before after counted halt why failed
@@ -70,20 +86,24 @@ module _ (form : Form) (c : Choices) (f r f' r' : FeedState) (before mid : Outle
     pub run_every : EveryEnding c (run_with f' r')
     run_every =
         let new = p.new in
-        let P : FeedState → Type 0 = λ x. EveryEnding c (run_with x r') in let Q : FeedState →
-        Type 0 = λ y. EveryEnding c (run_with (feed_in new.forward) y) in
-        subst P (sym p.forward) (subst Q (sym p.reverse) (every form c f r p.new before after
-        counted halt why failed o closed judged sound sound'))
+        let P : FeedState → Type 0 = λ x. EveryEnding c (run_at (ended o counted) x r') in
+        let Q : FeedState → Type 0 = λ y. EveryEnding c (run_at (ended o counted)
+        (feed_in new.forward) y) in
+        subst (λ (t : Total). EveryEnding c (run_at t f' r')) (sym at_end)
+        (subst P (sym p.forward) (subst Q (sym p.reverse) (every form c f r p.new before after
+        counted halt why failed o closed judged sound sound')))
 
     -- if this run ends at the end of the input, or at a fault in it, it has trimmed all pairs
     pub run_whole : IsTrue (ends_whole o) → AreTold (run_with f' r') → IsTrimmed c (run_with f' r')
     run_whole ends told =
         let new = p.new in
-        let P : FeedState → Type 0 = λ x. IsTrimmed c (run_with x r') in let Q : FeedState →
-        Type 0 = λ y. IsTrimmed c (run_with (feed_in new.forward) y) in
-        subst P (sym p.forward) (subst Q (sym p.reverse) (trimmed form c f r p.new before after
+        let P : FeedState → Type 0 = λ x. IsTrimmed c (run_at (ended o counted) x r') in
+        let Q : FeedState → Type 0 = λ y. IsTrimmed c (run_at (ended o counted)
+        (feed_in new.forward) y) in
+        subst (λ (t : Total). IsTrimmed c (run_at t f' r')) (sym at_end)
+        (subst P (sym p.forward) (subst Q (sym p.reverse) (trimmed form c f r p.new before after
         counted halt why failed o closed judged sound sound' ends (record {
           forward =
               told.forward;
           reverse = told.reverse;
-        })))
+        }))))

@@ -1,20 +1,22 @@
 -- Totals of pairs, one list after another.
-use Rattle.std.proofs.Common.{◌≡◌, ◌+◌, ◌<◌, ◌^◌, inl, Bool, true, false, Option, Some, List, [], ◌++◌, length, refl, sym, ap, ◌∙◌}
+use Rattle.std.proofs.Common.{◌≡◌, ◌+◌, ◌<◌, ◌^◌, Bool, true, false, cond, ◌&&◌, Option, Some, None, List, [], ◌++◌, length, refl, sym, ap, ap₂, ◌∙◌}
 use Rattle.fq_trim.specs.declared.step.Step.{Step}
 use Rattle.fq_pair.specs.declared.counts.Counts.{Counts}
 use Rattle.fq_pair.specs.Mates.{Mates}
+use Rattle.fq_pair.specs.Summaries.{capped}
+use Rattle.fq_pair.specs.declared.out.Out.{Out}
 use Rattle.fq_pair.specs.Outputs.{Outputs, texts_of, counts_of}
-use Rattle.fq_read_tally.specs.Courses.{alone}
 use Rattle.fq_tally.specs.declared.tally.Tally.{Tally}
-use Rattle.fq_tally.proofs.PlusLaws.{tally_of-append}
+use Rattle.fq_tally.proofs.ResultLemmas.{with_none, with_more}
 use Rattle.fq_tally.specs.declared.done.Done.{Done}
-use Rattle.fq_tally.specs.Results.{tally_if}
+use Rattle.fq_tally.specs.Results.{tally_if, none_counted, tally_with}
 use Rattle.fq_run_core.specs.declared.halt.Halt.{Halt}
 use Rattle.fq_run_core.specs.declared.reading_end.ReadingEnd.{ReadingEnd}
+use Rattle.fq_run_core.specs.declared.reading_end.ReadingEnd.TheVariants as reading
 use Rattle.fq_run_core.specs.declared.total.Total.{Total}
 use Rattle.fq_run_core.specs.Choices.{Choices}
-use Rattle.fq_run_core.specs.Totals.{total_of, no_total, tally_plus, total_plus}
-use Rattle.fq_run_core.specs.Writing.{IsCounted}
+use Rattle.fq_run_core.specs.Totals.{total_of, no_total}
+use Rattle.fq_run_core.specs.Writing.{IsCounted, wants_memory}
 use Rattle.fq_run_core.proofs.TextLemmas.{counts_added}
 
 -- no pairs
@@ -32,35 +34,68 @@ no_total_is tallied steps = ap (λ (t : Option Tally). let x : Total = record {
   tally = t;
 } in x) (no_tally_is tallied steps)
 
--- tallies add up
-tally_added : (tallied : Bool) (steps : List Step) (ms ns : List Mates) →
-    tally_plus (tally_if tallied steps ms) (tally_if tallied steps ns)
-    ≡ tally_if tallied steps (ms ++ ns)
-tally_added true steps ms ns = ap (λ (t : Tally). let x : Option Tally = Some t in x)
-    (sym (tally_of-append (alone steps) ms ns))
-tally_added false steps ms ns = refl
-
 -- the totals of few pairs add up
-pub total_added : (tallied : Bool) (steps : List Step) (ms ns : List Mates) (total : Total)
+pub total_added : (tallied : Bool) (steps : List Step) (ms ns : List Mates) (total then : Total)
     (done : Done) → total ≡ total_of tallied steps ms → done.texts ≡ texts_of steps ns →
-    done.tally ≡ tally_if tallied steps ns →
-    length ms + length ns < 2 ^ 62 → total_plus total done ≡ total_of tallied steps (ms ++ ns)
-total_added tallied steps ms ns total done first texts tally small =
+    then.counts ≡ capped total.counts done.texts.counts →
+    then.tally ≡ tally_with steps total.tally ns →
+    length ms + length ns < 2 ^ 62 → then ≡ total_of tallied steps (ms ++ ns)
+total_added tallied steps ms ns total then done first texts counts tally small =
     let with : Counts → Option Tally → Total = λ n t. record { counts = n; tally = t } in
-    let counts = counts_added steps ms ns total.counts done.texts.counts
-    (ap (λ (t : Total). t.counts) first) (ap (λ (t : Outputs). t.counts) texts) small in
-    ap (λ (n : Counts). with n (tally_plus total.tally done.tally)) counts
-    ∙ ap (λ (t : Option Tally). with (counts_of steps (ms ++ ns)) (tally_plus t done.tally))
-    (ap (λ (t : Total). t.tally) first)
-    ∙ ap (λ (t : Option Tally). with (counts_of steps (ms ++ ns))
-    (tally_plus (tally_if tallied steps ms) t)) tally
-    ∙ ap (with (counts_of steps (ms ++ ns))) (tally_added tallied steps ms ns)
+    ap₂ with (counts ∙ counts_added steps ms ns total.counts done.texts.counts
+    (ap (λ (t : Total). t.counts) first) (ap (λ (t : Outputs). t.counts) texts) small)
+    (tally ∙ ap (λ (t : Total). tally_with steps t.tally ns) first
+    ∙ ap (λ (t : Option Tally). tally_with steps t ns) (sym (with_none tallied steps ms))
+    ∙ with_more steps (none_counted tallied) ms ns ∙ with_none tallied steps (ms ++ ns))
 
 -- a total of pairs counts them, whatever was read and whichever worker stopped
 pub is_counted : (c : Choices) (whole : List Mates) (halt : Halt) (why : Option ReadingEnd)
-    (total : Total) → total ≡ total_of c.tallied c.steps whole → IsCounted c whole halt why total
-is_counted c whole halt why total is = record {
+    (broken : Option Out) (total : Total) → total ≡ total_of c.tallied c.steps whole →
+    IsCounted c whole halt why broken total
+is_counted c whole halt why broken total is = record {
   counts = ap (λ (t : Total). t.counts) is;
-  tally =
-      inl (ap (λ (t : Total). t.tally) is);
+  tally = λ going sound enough. ap (λ (t : Total). t.tally) is;
 }
+
+-- if a write failed, nothing is said of the tally
+pub is_cut : (c : Choices) (whole : List Mates) (halt : Halt) (why : Option ReadingEnd)
+    (failed : Out) (total : Total) → total.counts ≡ counts_of c.steps whole →
+    IsCounted c whole halt why (Some failed) total
+is_cut c whole halt why failed total is =
+    record { counts = is; tally = λ going sound enough. absurd cc }
+
+-- what is counted if no write failed is counted if no outlet failed
+pub recounted : (c : Choices) (whole : List Mates) (halt : Halt) (why : Option ReadingEnd)
+    (broken failed : Option Out) (total : Total) → (failed ≡ None → broken ≡ None) →
+    IsCounted c whole halt why broken total → IsCounted c whole halt why failed total
+recounted c whole halt why broken failed total sound counts = record {
+  counts = counts.counts;
+  tally = λ going none enough. counts.tally going (sound none) enough;
+}
+
+-- at any other ending there is no tally
+pub none_at : (e b : Bool) (t : Option Tally) (steps : List Step) (ms : List Mates) → e ≡ false →
+    cond e t None ≡ tally_if (b && e) steps ms
+none_at false true t steps ms is = refl
+none_at false false t steps ms is = refl
+none_at true b t steps ms is = absurd cc
+
+-- at the end of the input, or at a fault in it, the tally is that of the pairs
+pub whole_at : (e b : Bool) (t : Option Tally) (steps : List Step) (ms : List Mates) → e ≡ true →
+    t ≡ tally_if b steps ms → cond e t None ≡ tally_if (b && e) steps ms
+whole_at false b t steps ms is same = absurd cc
+whole_at true true t steps ms is same = same
+whole_at true false t steps ms is same = same
+
+-- and it is the tally that was counted
+pub kept_at : (e : Bool) (t : Option Tally) → e ≡ true → cond e t None ≡ t
+kept_at true t is = refl
+kept_at false t is = absurd cc
+
+-- a reading that memory did not end
+pub not_memory : (why : Option ReadingEnd) → (why ≡ Some reading.Memory → ⊥) →
+    wants_memory why ≡ false
+not_memory None other = refl
+not_memory (Some reading.Memory) other = absurd (other refl)
+not_memory (Some reading.End) other = refl
+not_memory (Some (reading.Fault fault)) other = refl

@@ -209,20 +209,6 @@ module _ (halt : Halt) (why : Option ReadingEnd) (failed : Option Out) (o : Outc
       absurd (let e = sym is ∙ at in cc)
   at_endless (IsOver none going there is) side at = absurd (let e = sym is ∙ at in cc)
 
-  -- if no worker stopped, memory that is refused to the reading is returned
-  pub at_refusal : halt ≡ no_halt → why ≡ Some reading.Memory → Verdict halt why failed o →
-      o ≡ Memory
-  at_refusal sound at (IsRefused there is) =
-      absurd (let e = sym there ∙ ap (λ (h : Halt). h.gate) sound in cc)
-  at_refusal sound at (WantsMemory is) = is
-  at_refusal sound at (FailedAt x there going enough is) =
-      absurd (let e = sym enough ∙ ap lacks_memory at in cc)
-  at_refusal sound at (CannotRead x none going there is) = absurd (let e = sym there ∙ at in cc)
-  at_refusal sound at (HasNoEnd x none going there is) = absurd (let e = sym there ∙ at in cc)
-  at_refusal sound at (HasFault fault none going there inside is) =
-      absurd (let e = sym there ∙ at in cc)
-  at_refusal sound at (IsOver none going there is) = absurd (let e = sym there ∙ at in cc)
-
   -- if an outlet failed, the outcome is `Write` or comes before it in the order of precedence
   pub outlet_first : Verdict halt why failed o → (out : Out) → failed ≡ Some out → rank o ≤ 5
   outlet_first (IsRefused there is) out at = let e = ap rank is in omega arith

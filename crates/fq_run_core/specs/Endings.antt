@@ -1,5 +1,5 @@
 -- What a run guarantees, however it ends.
-use Rattle.std.specs.Prelude.{◌≡◌, ◌≢◌, ℕ, ◌<◌, ◌≤◌, ◌⊎◌, Bool, true, false, IsTrue, Option, Some, None, IfSome, List, [], ◌++◌, length}
+use Rattle.std.specs.Prelude.{◌≡◌, ◌≢◌, ℕ, ◌<◌, ◌≤◌, ◌⊎◌, Bool, true, false, ◌&&◌, IsTrue, Option, Some, None, IfSome, List, [], ◌++◌, length}
 use Rattle.std.specs.Option.{option_map}
 use Rattle.fq_text.specs.Lines.{whole_part}
 use Rattle.fq_text.specs.Records.{records}
@@ -162,11 +162,10 @@ IsAllThatCame c run whole =
     ⊎ ((IsCutOff c run.forward run.forward_left ⊎ IsCutOff c run.reverse run.reverse_left)
     × (length (pairs_given c run) ≤ length whole))
 
--- the tally is that of these pairs, if one is asked for; if memory was refused there may be none
+-- the tally is that of these pairs, if one is asked for and the run ended whole; else there is none
 abbrev pub IsTallied : Choices → List Mates → Run → Type 0
 IsTallied c whole run =
-    (run.tally ≡ tally_if c.tallied c.steps whole)
-    ⊎ ((run.tally ≡ None) × (run.outcome ≡ outcome.Memory))
+    run.tally ≡ tally_if (c.tallied && ends_whole run.outcome) c.steps whole
 
 -- the first list is the beginning of the second
 abbrev pub AreFirst : List Mates → List Mates → Type 0

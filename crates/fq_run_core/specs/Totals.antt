@@ -1,5 +1,6 @@
--- What a run counts: the pairs whose block was written completely.
-use Rattle.std.specs.Prelude.{Bool, Option, Some, None, List, []}
+-- What a run counts: the pairs whose block was written completely. The tally may have more pairs
+-- until the run is over.
+use Rattle.std.specs.Prelude.{Bool, Option, Some, None, List, [], if◌then◌else◌}
 use Rattle.fq_trim.specs.declared.step.Step.{Step}
 use Rattle.fq_pair.specs.Mates.{Mates}
 use Rattle.fq_pair.specs.Outputs.{counts_of}
@@ -8,6 +9,8 @@ use Rattle.fq_tally.specs.declared.tally.Tally.{Tally}
 use Rattle.fq_tally.specs.Tallies.{plus}
 use Rattle.fq_tally.specs.declared.done.Done.{Done}
 use Rattle.fq_tally.specs.Results.{tally_if}
+use Rattle.fq_run_core.specs.declared.outcome.Outcome.{Outcome}
+use Rattle.fq_run_core.specs.Endings.{ends_whole}
 use Rattle.fq_run_core.specs.declared.total.Total.{Total}
 
 -- the counts of pairs, and their tally if one is asked for
@@ -18,14 +21,20 @@ total_of tallied steps pairs =
 abbrev pub no_total : Bool → Total
 no_total tallied = total_of tallied [] []
 
--- the result of a block is added to a total; the tallies are added only if both have one
+-- the tally of a worker is added to another, if both are there
 abbrev pub tally_plus : Option Tally → Option Tally → Option Tally
 tally_plus (Some a) (Some b) = Some (plus a b)
 tally_plus (Some a) None = Some a
 tally_plus None other = None
 
+-- the counts of a block are added to a total
 abbrev pub total_plus : Total → Done → Total
-total_plus total done = record {
-  counts = capped total.counts done.texts.counts;
-  tally = tally_plus total.tally done.tally;
-}
+total_plus total done =
+    record { counts = capped total.counts done.texts.counts; tally = total.tally }
+
+-- what a run with this outcome returns of a total: no tally unless it ended whole
+abbrev pub tally_at : Outcome → Option Tally → Option Tally
+tally_at outcome tally = if ends_whole outcome then tally else None
+
+abbrev pub ended : Outcome → Total → Total
+ended outcome total = record { counts = total.counts; tally = tally_at outcome total.tally }

@@ -1,5 +1,5 @@
 -- How the blocks of a run are read and written.
-use Rattle.std.specs.Prelude.{◌≡◌, ◌≢◌, ◌⊎◌, Bool, true, false, ◌||◌, Option, Some, None, List, [], ◌++◌}
+use Rattle.std.specs.Prelude.{◌≡◌, ◌≢◌, Bool, true, false, ◌||◌, Option, Some, None, List, [], ◌++◌}
 use Rattle.fq_pair.specs.declared.out.Out.{Out}
 use Rattle.fq_pair.specs.declared.fault.InputFault.{InputFault}
 use Rattle.fq_pair.specs.Mates.{Mates}
@@ -25,16 +25,22 @@ abbrev pub is_flush : Fate → Bool
 is_flush (FlushFailed out) = true
 is_flush _ = false
 
+-- reading stopped because memory was refused
+abbrev pub wants_memory : Option ReadingEnd → Bool
+wants_memory (Some reading.Memory) = true
+wants_memory _ = false
+
 -- no worker stopped early
 abbrev pub no_halt : Halt
 no_halt = record { gate = false; memory = false }
 
--- a total is that of these pairs; if memory was refused before the first pair, there is no tally
+-- The counts of a total are those of these pairs. If no worker stopped, no write failed and memory
+-- was not refused, so is its tally, if one is asked for.
 pub record IsCounted (c : Choices) (whole : List Mates) (halt : Halt) (why : Option ReadingEnd)
-    (total : Total) : Type 0 where
+    (broken : Option Out) (total : Total) : Type 0 where
   pub counts : total.counts ≡ counts_of c.steps whole
-  pub tally : (total.tally ≡ tally_if c.tallied c.steps whole)
-      ⊎ ((total.tally ≡ None) × (halt ≡ no_halt) × (why ≡ Some reading.Memory))
+  pub tally : halt ≡ no_halt → broken ≡ None → wants_memory why ≡ false →
+      total.tally ≡ tally_if c.tallied c.steps whole
 
 -- Pairs were read until reading stopped, and written until a write failed or a worker stopped; the
 -- pairs after that were missed.
@@ -43,7 +49,7 @@ pub record Passes (c : Choices) (old new : SourceState) (before after : OutletSt
   pub whole : List Mates
   pub fate : Fate
   pub missed : List Mates
-  pub counts : IsCounted c whole halt why counted
+  pub counts : IsCounted c whole halt why broken counted
   pub reads : Reads old new ((whole ++ block_begun fate) ++ missed) why
   pub took : OutletsTook before after
       (λ out. text_of out (texts_of c.steps whole) ++ part_begun c.steps fate out)
@@ -80,10 +86,6 @@ FlushesAfter None before after result =
     OutletsTook before after (λ out. []) result × (result ≡ None → AreFlushed after)
 
 -- what an outcome is made of: how the workers, the reading and the writing ended
-abbrev pub wants_memory : Option ReadingEnd → Bool
-wants_memory (Some reading.Memory) = true
-wants_memory _ = false
-
 abbrev pub fault_in : Option ReadingEnd → Option InputFault
 fault_in (Some (reading.Fault fault)) = Some fault
 fault_in _ = None

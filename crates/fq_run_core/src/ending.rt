@@ -16,8 +16,8 @@ pub struct Ending<F, G> {
     pub outcome: Outcome,
     /// The counts of the pairs whose block was written completely.
     pub counts: Counts,
-    /// The tally of the same pairs, if the settings ask for one. `None` also if memory for it was
-    /// refused before anything was read.
+    /// The tally of the same pairs, if the settings ask for one and the outcome is `Input` or
+    /// `Finished`. `None` at all other outcomes.
     pub tally: Option<Tally>,
     /// The feed of the forward input, as the run left it. `None` if it was lost because a thread
     /// couldn't be started.
@@ -41,8 +41,8 @@ pub struct MixedEnding<F> {
     pub outcome: Outcome,
     /// The counts of the pairs whose block was written completely.
     pub counts: Counts,
-    /// The tally of the same pairs, if the settings ask for one. `None` also if memory for it was
-    /// refused before anything was read.
+    /// The tally of the same pairs, if the settings ask for one and the outcome is `Input` or
+    /// `Finished`. `None` at all other outcomes.
     pub tally: Option<Tally>,
     /// The feed, as the run left it. `None` if it was lost because a thread couldn't be started.
     pub feed: Option<F>,

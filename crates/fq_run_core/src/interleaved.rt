@@ -55,14 +55,16 @@ pub fn run_serial_mixed<F: Feed, O: Outlet>(
     } = pass(alloc, settings, feed, outlets);
     let Written { total, why, failed } = written;
     let failed = outlets.flush_after(failed);
+    let outcome = Occurred::new(Halt::NONE, why, failed).outcome();
+    let total = total.at_end(outcome);
     MixedEnding {
-        outcome: Occurred::new(Halt::NONE, why, failed).outcome(),
+        outcome,
         counts: total.counts,
         tally: total.tally,
         feed: Some(feed),
         unended: None,
         refused: Occurred::new(Halt::NONE, why, failed).refused(),
-        unmatched: names_at(Occurred::new(Halt::NONE, why, failed).outcome(), unmatched),
+        unmatched: names_at(outcome, unmatched),
     }
 }
 

@@ -1,5 +1,8 @@
 //! How a run ended.
 
+ghost use Rattle.std.specs.Prelude.{◌≡◌};
+ghost use Rattle.fq_run_core.specs.Endings.{ends_whole};
+
 use fq_pair::{InputFault, Out, Side};
 
 /// How a run ended. If several of these occurred, the run returns the first in this order.
@@ -27,4 +30,13 @@ pub enum Outcome {
     Input(InputFault),
     /// All pairs are written.
     Finished,
+}
+
+impl Outcome {
+    /// Whether the run ended at the end of the input, or at a fault in it.
+    pub fn is_whole(self) -> bool
+        ensures { result ≡ ends_whole self }
+    {
+        matches!(self, Outcome::Input(_) | Outcome::Finished)
+    }
 }

@@ -1,11 +1,13 @@
 //! What a run counts.
 
+use crate::outcome::Outcome;
 use fq_pair::Counts;
-use fq_tally::{Done, PackedDone, Tally};
+use fq_tally::{Done, Tally};
 use fq_text::OutOfMemory;
 use std::alloc::Global;
 
-/// The counts and the tally of the pairs whose block was written completely.
+/// The counts of the pairs whose block was written completely, and the tally of the pairs that were
+/// trimmed.
 #[derive(Drop)]
 pub struct Total {
     /// The number of pairs, and of those in which both, one or none of the mates survived.
@@ -16,7 +18,7 @@ pub struct Total {
 
 impl Total {
     ghost use Rattle.std.specs.Prelude.{◌≡◌, false, IfOk, OnOk, OnErr};
-    ghost use Rattle.fq_run_core.specs.Totals.{no_total, total_plus};
+    ghost use Rattle.fq_run_core.specs.Totals.{no_total, total_plus, tally_plus, ended};
 
     /// The total of no pairs. Allocates a tally if one is asked for; the memory may be refused.
     pub fn new(alloc: Global, tallied: bool) -> Result<Total, OutOfMemory>
@@ -49,25 +51,34 @@ impl Total {
         }
     }
 
-    /// Adds the counts of a block, and its tally if both have one.
+    /// Adds the counts of a block. The tally stays.
     pub fn add(&mut self, done: &Done)
         ensures { self.new ≡ total_plus self.old done.now }
     {
         self.counts = self.counts.plus(done.texts.counts());
+    }
+
+    /// Adds the tally of a worker, if both have one. The counts stay.
+    pub fn add_tally(&mut self, more: &Option<Tally>)
+        ensures counts { self.new.counts ≡ self.old.counts }
+        ensures tally { self.new.tally ≡ tally_plus self.old.tally more.now }
+    {
         if let Some(tally) = &mut self.tally {
-            if let Some(more) = &done.tally {
+            if let Some(more) = more {
                 tally.add_all(more);
             }
         }
     }
 
-    /// Does what [`add`](Total::add) does, with a block that is packed.
-    pub fn add_packed(&mut self, done: &PackedDone)
-        ensures { self.new ≡ total_plus self.old done.now }
+    /// What a run with this outcome returns: its tally goes unless the run ended whole, since it
+    /// may then have pairs that were not written.
+    pub fn at_end(self, outcome: Outcome) -> Total
+        ensures { result ≡ ended outcome self }
     {
-        self.counts = self.counts.plus(done.texts().counts());
-        if let Some(tally) = &mut self.tally {
-            done.add_tally_to(tally);
+        let mut total = self;
+        if !outcome.is_whole() {
+            total.tally = None;
         }
+        total
     }
 }

@@ -32,10 +32,11 @@ use std::alloc::Global;
 /// up to the first flush that fails.
 ///
 /// If several of these occur, the run returns the first in the order of
-/// [`Outcome`](crate::Outcome); `Spawn`, `Lane` and `Gate` don't occur. The counts, and the tally
-/// if the settings ask for one, cover the pairs whose block was written completely. If memory for
-/// the tally is refused, nothing is read. Both feeds are handed back as the run left them. The
-/// settings for threads aren't used. No device may have failed before the run.
+/// [`Outcome`](crate::Outcome); `Spawn`, `Lane` and `Gate` don't occur. The counts cover the pairs
+/// whose block was written completely. At `Input` and `Finished` so does the tally, if the settings
+/// ask for one; at all other outcomes there is none. If memory for the tally is refused, nothing is
+/// read. Both feeds are handed back as the run left them. The settings for threads aren't used. No
+/// device may have failed before the run.
 pub fn run_serial<F: Feed, G: Feed, O: Outlet>(
     alloc: Global,
     settings: &Settings,
@@ -69,15 +70,17 @@ pub fn run_serial<F: Feed, G: Feed, O: Outlet>(
     } = pass(alloc, settings, forward, reverse, outlets);
     let Written { total, why, failed } = written;
     let failed = outlets.flush_after(failed);
+    let outcome = Occurred::new(Halt::NONE, why, failed).outcome();
+    let total = total.at_end(outcome);
     Ending {
-        outcome: Occurred::new(Halt::NONE, why, failed).outcome(),
+        outcome,
         counts: total.counts,
         tally: total.tally,
         forward: Some(forward),
         reverse: Some(reverse),
         unended: None,
         refused: Occurred::new(Halt::NONE, why, failed).refused(),
-        unmatched: names_at(Occurred::new(Halt::NONE, why, failed).outcome(), unmatched),
+        unmatched: names_at(outcome, unmatched),
     }
 }
 

@@ -1,12 +1,13 @@
 //! Reads and writes the blocks of a run on one thread.
 
-ghost use Rattle.std.specs.Prelude.{◌≡◌, ◌≤◌, false, is_some, OnOk, OnErr};
+ghost use Rattle.std.specs.Prelude.{◌≡◌, ◌≤◌, OnOk, OnErr};
 ghost use Rattle.fq_text.specs.Reading.{text_limit};
 ghost use Rattle.fq_pair.specs.Walks.{GoesOn};
 ghost use Rattle.fq_run_core.specs.Devices.{outlet_states, AreHealthy};
 ghost use Rattle.fq_run_core.specs.Gathering.{Gathers};
 ghost use Rattle.fq_run_core.specs.Sending.{Sends};
-ghost use Rattle.fq_run_core.specs.Totals.{no_total, total_plus};
+ghost use Rattle.fq_run_core.specs.Totals.{no_total};
+ghost use Rattle.fq_pair.specs.Summaries.{capped};
 ghost use Rattle.fq_run_core.specs.Writing.{Passes, HasWritten, nothing_written, no_halt};
 
 use crate::gathering::gather;
@@ -17,7 +18,7 @@ use crate::total::Total;
 use crate::written::Written;
 use fq_pair::{Out, PairReader};
 use fq_tally::Done;
-use fq_text::{OutOfMemory, Outlet};
+use fq_text::Outlet;
 use fq_trim::Steps;
 use std::alloc::Global;
 
@@ -78,23 +79,12 @@ fn write_with<S: PairReader, O: Outlet>(
     ensures { HasWritten settings.now (S.state source.old) (S.state source.new)
         (outlet_states O.state outlets.old) (outlet_states O.state outlets.new) written.new }
 {
-    let Ok(()) = ask(alloc, settings.tallied(), &mut written.total, done) else {
+    let Ok(()) = written.total.ask(alloc, settings.tallied()) else {
         return;
     };
     let (why, failed) = write_each(settings, source, outlets, &mut written.total, done);
     written.why = why;
     written.failed = failed;
-}
-
-// Allocates the tallies of the block and of the total, if a tally is asked for.
-fn ask(alloc: Global, tallied: bool, total: &mut Total, done: &mut Done) -> Result<(), OutOfMemory>
-    requires { total.old ≡ no_total false }
-    ensures total { OnOk result (total.new ≡ no_total tallied) }
-    ensures asked { OnOk result (is_some done.new.tally ≡ tallied) }
-    ensures refused { OnErr result (total.new ≡ total.old) }
-{
-    done.ask(alloc, tallied)?;
-    total.ask(alloc, tallied)
 }
 
 // Reads and writes block by block, and counts each block that is written completely. Returns why
@@ -111,7 +101,6 @@ fn write_each<S: PairReader, O: Outlet>(
     requires few { (S.state source.old).most_bytes ≤ text_limit }
     requires outlets { AreHealthy (outlet_states O.state outlets.old) }
     requires none { total.old ≡ no_total settings.now.tallied }
-    requires asked { is_some done.old.tally ≡ settings.now.tallied }
     ensures { Passes settings.now (S.state source.old) (S.state source.new)
         (outlet_states O.state outlets.old) (outlet_states O.state outlets.new)
         total.new no_halt result.0 result.1 }
@@ -131,7 +120,8 @@ fn write_each<S: PairReader, O: Outlet>(
 }
 
 // Reads and writes the next block, of up to `most` pairs, and counts it if it is written
-// completely. Returns why reading stopped, if it did, and the result of the write.
+// completely. The tally gets its pairs in any case. Returns why reading stopped, if it did, and the
+// result of the write.
 fn write_block<S: PairReader, O: Outlet>(
     source: &mut S,
     steps: &Steps,
@@ -145,14 +135,15 @@ fn write_block<S: PairReader, O: Outlet>(
     requires few { most ≤ 65536 }
     requires outlets { AreHealthy (outlet_states O.state outlets.old) }
     ensures gathers { Gathers (S.state source.old) (S.state source.new)
-        (is_some done.old.tally) steps.now most done.new result.0 }
+        steps.now most total.old.tally total.new.tally done.new result.0 }
     ensures sends { Sends (outlet_states O.state outlets.old)
         (outlet_states O.state outlets.new) done.new.texts result.1 }
-    ensures counted { OnOk result.1 (total.new ≡ total_plus total.old done.new) }
-    ensures uncounted { OnErr result.1 (total.new ≡ total.old) }
+    ensures counted { OnOk result.1
+        (total.new.counts ≡ capped total.old.counts done.new.texts.counts) }
+    ensures uncounted { OnErr result.1 (total.new.counts ≡ total.old.counts) }
 {
     done.clear();
-    let why = gather(source, steps, most, done);
+    let why = gather(source, steps, most, done, &mut total.tally);
     let sent = outlets.write(&done.texts);
     if sent.is_ok() {
         total.add(done);

@@ -1,12 +1,12 @@
 -- Pairs that are tallied apart and added up give the tally of all.
-use Rattle.std.proofs.Common.{◌≡◌, List, [], ◌∷◌, ◌++◌, fold, refl, ap, sym, ◌∙◌}
+use Rattle.std.proofs.Common.{◌≡◌, List, [], ◌∷◌, ◌++◌, fold, refl, ap, ap₂, sym, ◌∙◌}
 use Rattle.std.proofs.lemmas.List.Sums.{fold-append}
 use Rattle.fq_trim.specs.declared.step.Step.{Step}
 use Rattle.fq_pair.specs.Mates.{Mates}
 use Rattle.fq_read_tally.specs.declared.side.SideTally.{SideTally}
 use Rattle.fq_read_tally.specs.Courses.{course, survives}
 use Rattle.fq_read_tally.specs.SideTallies.{no_side, with_read, side_plus}
-use Rattle.fq_read_tally.proofs.PlusLaws.{SmallSide, no_side_small, read_small, side_read, side_none}
+use Rattle.fq_read_tally.proofs.PlusLaws.{SmallSide, no_side_small, read_small, side_read, side_none, side_comm, side_assoc}
 use Rattle.fq_tally.specs.declared.tally.Tally.{Tally}
 use Rattle.fq_tally.specs.Tallies.{no_tally, with_pair, tally_of, plus}
 
@@ -62,3 +62,15 @@ module _ (lists : List (List Step)) where
       fold-append (with_pair lists) no_tally front behind
       ∙ ap (λ (u : Tally). fold (with_pair lists) u behind) (sym none)
       ∙ plus_pairs s no_tally behind small
+
+abbrev two : SideTally → SideTally → Tally
+two f r = record { forward = f; reverse = r }
+
+-- tallies may be added in either order
+pub plus_comm : (a b : Tally) → plus a b ≡ plus b a
+plus_comm a b = ap₂ two (side_comm a.forward b.forward) (side_comm a.reverse b.reverse)
+
+-- of three tallies the first two may be added first, or the last two
+pub plus_assoc : (a b c : Tally) → plus (plus a b) c ≡ plus a (plus b c)
+plus_assoc a b c = ap₂ two (side_assoc a.forward b.forward c.forward)
+    (side_assoc a.reverse b.reverse c.reverse)

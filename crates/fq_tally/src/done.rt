@@ -13,61 +13,35 @@ use fq_text::{OutOfMemory, ReadView};
 use fq_trim::Steps;
 use std::alloc::Global;
 
-/// What is written for the pairs of a block, and what is counted for a report. Its memory is reused
-/// for other blocks.
+/// What is written for the pairs of a block. Its memory is reused for other blocks.
 #[derive(Drop)]
 pub struct Done {
     /// The number of the block.
     pub number: u64,
     /// The texts, the trim log and the counts of the block's pairs.
     pub texts: Texts,
-    /// The tally of the block's pairs, step by step. `None` if no tally is asked for.
-    pub tally: Option<Tally>,
 }
 
 impl Done {
-    ghost use Rattle.std.specs.Prelude.{◌≡◌, ◌<◌, None, is_some, OnOk, OnErr};
+    ghost use Rattle.std.specs.Prelude.{◌≡◌, ◌<◌, OnOk, OnErr};
     ghost use Rattle.fq_pair.specs.Outputs.{no_texts};
-    ghost use Rattle.fq_tally.specs.Results.{emptied, with_mates};
+    ghost use Rattle.fq_tally.specs.Results.{emptied, tally_with, with_mates};
 
-    /// Makes a `Done` with this number, empty texts and no tally. It allocates nothing.
+    /// Makes a `Done` with this number and empty texts. It allocates nothing.
     pub fn new(alloc: Global, number: u64) -> Done
-        ensures { result ≡ record { number = number; texts = no_texts; tally = None } }
+        ensures { result ≡ record { number = number; texts = no_texts } }
     {
         Done {
             number,
             texts: Texts::new(alloc),
-            tally: None,
         }
     }
 
-    /// Turns the tally on or off. Turning it on allocates one if there was none; if memory is
-    /// refused, there is no tally. The number and the texts stay as they are.
-    pub fn ask(&mut self, alloc: Global, tallied: bool) -> Result<(), OutOfMemory>
-        ensures asked { OnOk result (is_some self.new.tally ≡ tallied) }
-        ensures refused { OnErr result (self.new.tally ≡ None) }
-        ensures number { self.new.number ≡ self.old.number }
-        ensures texts { self.new.texts ≡ self.old.texts }
-    {
-        if !tallied {
-            self.tally = None;
-            return Ok(());
-        }
-        if self.tally.is_none() {
-            self.tally = Some(Tally::new(alloc)?);
-        }
-        Ok(())
-    }
-
-    /// Removes what was made of the pairs. The number stays, and the texts and the tally keep their
-    /// memory.
+    /// Removes what was made of the pairs. The number stays, and the texts keep their memory.
     pub fn clear(&mut self)
         ensures { self.new ≡ emptied self.old }
     {
         self.texts.clear();
-        if let Some(tally) = &mut self.tally {
-            tally.clear();
-        }
     }
 
     /// Adds what is written for one pair, and counts the pair if there is a tally. If memory is
@@ -79,15 +53,20 @@ impl Done {
         pair: PairView<'_>,
         names: NameLengths,
         steps: &Steps,
+        tally: &mut Option<Tally>,
     ) -> Result<(), OutOfMemory>
         requires room { self.old.texts.counts.pairs < u64.MAX }
         requires names { names ≡ name_lengths (mates_in pair.forward pair.reverse) }
         ensures ok { OnOk result
             (self.new ≡ with_mates steps.now self.old
             (mates_in pair.entry.forward pair.entry.reverse)) }
+        ensures tally { OnOk result
+            (tally.new ≡ tally_with steps.now tally.old
+            (mates_in pair.entry.forward pair.entry.reverse ∷ [])) }
         ensures err { OnErr result (self.new ≡ self.old) }
+        ensures kept { OnErr result (tally.new ≡ tally.old) }
     {
-        match &mut self.tally {
+        match tally {
             None => self.texts.add_named(pair, names, steps),
             Some(tally) => add_counted(&mut self.texts, tally, pair, names, steps),
         }

@@ -4,24 +4,20 @@
 //! A [`Tally`] takes pairs one after the other by [`add`](Tally::add), and other tallies by
 //! [`add_all`](Tally::add_all). Pairs that are tallied apart and added up give the tally of all.
 //!
-//! A pair that is also written is trimmed once, by [`Trimmed`]. [`Done`] does so for the pairs of a
-//! block: it has their texts and, if one is asked for, their tally.
+//! A pair that is also written is trimmed once, by [`Trimmed`]. [`Done`] has the texts of a block's
+//! pairs, and counts each pair in a tally of its caller's, if one is asked for.
 //!
 //! Which type has which:
 //!
 //! ```text
-//! Done             the result of a block: its texts and, if asked for, a tally
-//! └ Tally          what is counted of pairs
-//!   └ SideCounts   of the reads of one side: see `fq_read_tally`
-//! PackedDone       a `Done` that waits in a lane
-//! └ PackedTally
-//!   └ Tables       the counts one after the other
+//! Done             the result of a block: its texts
+//! Tally            what is counted of pairs
+//! └ SideCounts     of the reads of one side: see `fq_read_tally`
 //! ```
 #![tactic(auto)]
 
 mod done;
 pub mod laws;
-mod packed;
 mod tally;
 
 pub use done::Done;
@@ -29,5 +25,4 @@ pub use fq_read_tally::{
     BaseTally, Columns, LAST_POSITION, LAST_ROW, ReadsTally, Rows, SideCounts, SidePositions,
     SideTally, StepsTally, Trimmed,
 };
-pub use packed::PackedDone;
 pub use tally::Tally;

@@ -1,11 +1,11 @@
 //! Counts of pairs.
 
-ghost use Rattle.std.specs.Prelude.{◌≡◌, List, ◌++◌, IfOk, OnOk};
+ghost use Rattle.std.specs.Prelude.{◌≡◌, List, ◌++◌, IfOk};
 ghost use Rattle.fq_trim.specs.declared.step.Step.{Step};
 ghost use Rattle.fq_pair.specs.Mates.{Mates, mates_in};
 
 use fq_pair::PairView;
-use fq_read_tally::{SideCounts, Tables, Trimmed, Unread};
+use fq_read_tally::{SideCounts, Trimmed};
 use fq_text::OutOfMemory;
 use fq_trim::Steps;
 use std::alloc::Global;
@@ -22,7 +22,6 @@ pub struct Tally {
 impl Tally {
     ghost use Rattle.fq_read_tally.specs.Courses.{alone, passage};
     ghost use Rattle.fq_tally.specs.Tallies.{no_tally, with_pair, tally_of, plus};
-    ghost use Rattle.fq_tally.specs.Packing.{tally_tables, tally_in};
 
     /// The counts of no pairs. Takes the memory that counting can't do without, which may be
     /// refused.
@@ -75,30 +74,5 @@ impl Tally {
     {
         self.forward.add_all(&other.forward);
         self.reverse.add_all(&other.reverse);
-    }
-
-    // Packs the counts as the next tables. Nothing is said of what is left.
-    pub(crate) fn pack(&mut self, tables: &mut Tables) -> Result<(), OutOfMemory>
-        ensures { OnOk result (tables.new ≡ tables.old ++ tally_tables self.old) }
-    {
-        self.forward.pack(tables)?;
-        self.reverse.pack(tables)?;
-        Ok(())
-    }
-
-    // Adds the counts of the next tables.
-    pub(crate) fn add_unread(&mut self, unread: &mut Unread<'_>)
-        ensures { self.new ≡ plus self.old (tally_in unread.old) }
-    {
-        self.forward.add_unread(unread);
-        self.reverse.add_unread(unread);
-    }
-
-    /// Sets all counts to those of no pairs, and keeps their memory.
-    pub fn clear(&mut self)
-        ensures { self.new ≡ no_tally }
-    {
-        self.forward.clear();
-        self.reverse.clear();
     }
 }

@@ -4,18 +4,22 @@ use Rattle.std.proofs.lemmas.List.{append-nil}
 use Rattle.fq_trim.specs.declared.step.Step.{Step}
 use Rattle.fq_lane.specs.History.{History, with_item, with_mark}
 use Rattle.fq_block.specs.Blocks.{Numbered}
+use Rattle.fq_pair.specs.Mates.{Mates}
 use Rattle.fq_tally.specs.declared.done.Done.{Done}
+use Rattle.fq_tally.specs.declared.tally.Tally.{Tally}
+use Rattle.fq_tally.specs.Results.{tally_with}
+use Rattle.fq_tally.proofs.ResultLemmas.{with_more as with_others}
 use Rattle.fq_work.specs.declared.reply.Cause.{Cause}
 use Rattle.fq_work.specs.declared.reply.Reply.{Reply}
 use Rattle.fq_work.specs.declared.reply.Reply.TheVariants.{Done as done, Stop}
 use Rattle.fq_work.specs.Replies.{done_of, Answers}
-use Rattle.fq_work.specs.Work.{with_items, HasAnswered, HasDrained}
+use Rattle.fq_work.specs.Work.{pairs_of, with_items, HasAnswered, HasDrained}
 
-module _ (tallied : Bool) (steps : List Step) where
+module _ (steps : List Step) where
   -- with one more block, which is done
   pub answers_done : (bs : List Numbered) (rs : List Reply) (b : Numbered) (d : Done) →
-      d ≡ done_of tallied steps b → Answers tallied steps bs rs None →
-      Answers tallied steps (bs ++ b ∷ []) (rs ++ done d ∷ []) None
+      d ≡ done_of steps b → Answers steps bs rs None →
+      Answers steps (bs ++ b ∷ []) (rs ++ done d ∷ []) None
   answers_done [] [] b d e h = (e, tt)
   answers_done [] (r ∷ rs) b d e h = absurd h
   answers_done (a ∷ bs) [] b d e h = absurd h
@@ -24,7 +28,7 @@ module _ (tallied : Bool) (steps : List Step) where
 
   -- with one more block, which is refused
   pub answers_stop : (bs : List Numbered) (rs : List Reply) (b : Numbered) (c : Cause) →
-      Answers tallied steps bs rs None → Answers tallied steps (bs ++ b ∷ []) (rs ++ Stop c ∷ [])
+      Answers steps bs rs None → Answers steps (bs ++ b ∷ []) (rs ++ Stop c ∷ [])
       (Some c)
   answers_stop [] [] b c h = (refl, refl)
   answers_stop [] (r ∷ rs) b c h = absurd h
@@ -34,7 +38,7 @@ module _ (tallied : Bool) (steps : List Step) where
 
   -- after a Stop, blocks get no reply
   pub answers_more : (bs more : List Numbered) (rs : List Reply) (c : Cause) →
-      Answers tallied steps bs rs (Some c) → Answers tallied steps (bs ++ more) rs (Some c)
+      Answers steps bs rs (Some c) → Answers steps (bs ++ more) rs (Some c)
   answers_more [] more [] c h = absurd h
   answers_more [] more (r ∷ rs) c h = absurd h
   answers_more (a ∷ bs) more [] c h = absurd h
@@ -73,39 +77,59 @@ module _ {T : Type 0} where
         marked = true;
       } in j) (append_assoc l.items xs ys)
 
+-- the pairs of some blocks, and of others
+pub pairs_of-append : (bs ds : List Numbered) → pairs_of (bs ++ ds) ≡ pairs_of bs ++ pairs_of ds
+pairs_of-append [] ds = refl
+pairs_of-append (b ∷ bs) ds = ap (λ (ms : List Mates). b.pairs ++ ms) (pairs_of-append bs ds)
+    ∙ sym (append_assoc b.pairs (pairs_of bs) (pairs_of ds))
+
+-- a tally with the pairs of some blocks, and of one more
+pub tally_more : (steps : List Step) (t u v : Option Tally) (bs : List Numbered) (b : Numbered) →
+    u ≡ tally_with steps t (pairs_of bs) → v ≡ tally_with steps u b.pairs →
+    v ≡ tally_with steps t (pairs_of (bs ++ b ∷ []))
+tally_more steps t u v bs b was is =
+    is ∙ ap (λ (w : Option Tally). tally_with steps w b.pairs) was
+    ∙ with_others steps t (pairs_of bs) b.pairs
+    ∙ ap (tally_with steps t) (sym (pairs_of-append bs (b ∷ [])
+    ∙ ap (λ (ms : List Mates). pairs_of bs ++ ms) (append-nil b.pairs)))
+
 -- what was taken and answered in all: up to a mark, or drained up to it after a Stop
-module _ (tallied : Bool) (steps : List Step) where
-  -- the worker took some blocks, up to the mark, and what it sent answers them
-  pub record HasWorked (cause : Option Cause) (rx rx_new : History Numbered)
-      (tx tx_new : History Reply) : Type 0 where
+module _ (steps : List Step) where
+  -- the worker took some blocks, up to the mark, what it sent answers them, and it counted their
+  -- pairs if there is no cause
+  pub record HasWorked (cause : Option Cause) (t t_new : Option Tally)
+      (rx rx_new : History Numbered) (tx tx_new : History Reply) : Type 0 where
     pub took : List Numbered
     pub replies : List Reply
     pub received : rx_new ≡ with_items rx took true
     pub sent : tx_new ≡ with_items tx replies tx.marked
-    pub answers : Answers tallied steps took replies cause
+    pub answers : Answers steps took replies cause
+    pub counted : cause ≡ None → t_new ≡ tally_with steps t (pairs_of took)
 
   -- a worker that answered some blocks, and drained the lane after a stop, has done its work
-  pub worked : (cause : Option Cause) (b : Bool) (rx rx1 rx2 : History Numbered)
-      (tx tx1 tx2 : History Reply) → b ≡ is_some cause →
-      HasAnswered tallied steps cause rx rx1 tx tx1
-      → (b ≡ true → HasDrained rx1 rx2 × (tx2 ≡ tx1)) → (b ≡ false → (rx2 ≡ rx1) × (tx2 ≡ tx1)) →
-      HasWorked cause rx rx2 tx tx2
-  worked None b rx rx1 rx2 tx tx1 tx2 is h more same =
+  pub worked : (cause : Option Cause) (b : Bool) (t t1 t2 : Option Tally)
+      (rx rx1 rx2 : History Numbered) (tx tx1 tx2 : History Reply) → b ≡ is_some cause →
+      HasAnswered steps cause t t1 rx rx1 tx tx1
+      → (b ≡ true → HasDrained rx1 rx2 × (tx2 ≡ tx1))
+      → (b ≡ false → (rx2 ≡ rx1) × (tx2 ≡ tx1) × (t2 ≡ t1)) →
+      HasWorked cause t t2 rx rx2 tx tx2
+  worked None b t t1 t2 rx rx1 rx2 tx tx1 tx2 is h more same =
       record {
         took = h.took;
         replies = h.replies;
         received = (same is).0 ∙ h.received;
-        sent =
-            (same is).1 ∙ h.sent;
+        sent = (same is).1 ∙ h.sent;
         answers = h.answers;
+        counted = λ none. (same is).2 ∙ h.counted none;
       }
-  worked (Some c) b rx rx1 rx2 tx tx1 tx2 is h more same =
+  worked (Some c) b t t1 t2 rx rx1 rx2 tx tx1 tx2 is h more same =
       let d = more is in record {
         took = h.took ++ d.0.took;
         replies = h.replies;
         received = with_both rx rx1 rx2 h.took d.0.took rx.marked h.received d.0.received;
         sent = d.1 ∙ h.sent;
-        answers = answers_more tallied steps h.took d.0.took h.replies c h.answers;
+        answers = answers_more steps h.took d.0.took h.replies c h.answers;
+        counted = λ none. absurd (let no : Some c ≡ None = none in cc);
       }
 
 -- a lane that is closed after some replies has these replies and then the mark

@@ -1,6 +1,9 @@
 -- What a worker has done with its lanes.
-use Rattle.std.specs.Prelude.{◌≡◌, ◌⊎◌, ℕ, Bool, true, IsTrue, List, ◌++◌, Option, Some, None, IfOk}
+use Rattle.std.specs.Prelude.{◌≡◌, ◌⊎◌, ℕ, Bool, true, IsTrue, List, [], ◌∷◌, ◌++◌, Option, Some, None, IfOk}
 use Rattle.fq_trim.specs.declared.step.Step.{Step}
+use Rattle.fq_pair.specs.Mates.{Mates}
+use Rattle.fq_tally.specs.declared.tally.Tally.{Tally}
+use Rattle.fq_tally.specs.Results.{tally_with}
 use Rattle.fq_lane.specs.History.{History}
 use Rattle.fq_block.specs.Blocks.{Numbered}
 use Rattle.fq_work.specs.declared.ends.Worked.{Worked}
@@ -13,14 +16,21 @@ abbrev pub with_items : {T : Type 0} → History T → List T → Bool → Histo
 with_items history items marked =
     record { name = history.name; items = history.items ++ items; marked = marked }
 
--- the worker took some blocks, up to the mark, and what it sent answers them
-pub record IsWork (tallied : Bool) (steps : List Step) (rx : History Numbered) (tx : History Reply)
-    (worked : Worked) : Type 0 where
+-- the pairs of some blocks, one block after the other
+abbrev pub pairs_of : List Numbered → List Mates
+pairs_of [] = []
+pairs_of (block ∷ blocks) = block.pairs ++ pairs_of blocks
+
+-- The worker took some blocks, up to the mark, and what it sent answers them. If it answered all of
+-- them, it counted their pairs, if there is a tally.
+pub record IsWork (steps : List Step) (tally : Option Tally) (rx : History Numbered)
+    (tx : History Reply) (worked : Worked) : Type 0 where
   pub took : List Numbered
   pub replies : List Reply
   pub received : worked.rx ≡ with_items rx took true
   pub sent : IfOk worked.closing (λ end. end ≡ with_items tx replies true)
-  pub answers : Answers tallied steps took replies worked.cause
+  pub answers : Answers steps took replies worked.cause
+  pub counted : worked.cause ≡ None → worked.tally ≡ tally_with steps tally (pairs_of took)
 
 -- the gate may hold back a block, or is never asked
 abbrev pub MayShut : Bool → ℕ → Type 0
@@ -33,14 +43,16 @@ abbrev pub marked_by : Option Cause → Bool → Bool
 marked_by None marked = true
 marked_by (Some cause) marked = marked
 
--- so far the worker took some blocks, and what it sent answers them
-pub record HasAnswered (tallied : Bool) (steps : List Step) (cause : Option Cause)
+-- so far the worker took some blocks, what it sent answers them, and it counted their pairs if
+-- there is no cause
+pub record HasAnswered (steps : List Step) (cause : Option Cause) (tally tally_new : Option Tally)
     (rx rx_new : History Numbered) (tx tx_new : History Reply) : Type 0 where
   pub took : List Numbered
   pub replies : List Reply
   pub received : rx_new ≡ with_items rx took (marked_by cause rx.marked)
   pub sent : tx_new ≡ with_items tx replies tx.marked
-  pub answers : Answers tallied steps took replies cause
+  pub answers : Answers steps took replies cause
+  pub counted : cause ≡ None → tally_new ≡ tally_with steps tally (pairs_of took)
 
 -- the worker took some blocks, up to the mark
 pub record HasDrained (rx rx_new : History Numbered) : Type 0 where

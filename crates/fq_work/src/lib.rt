@@ -2,10 +2,10 @@
 //! through another, in order.
 //!
 //! [`work_block`] trims the pairs of one block, and counts them for a report if a tally is asked
-//! for. [`work`] and [`work_tallied`] do so block by block, ask a [`Gate`] before each, and stop if
-//! memory is refused or the gate does not let a block pass. Their contract says what was sent for
-//! what was taken: one [`Done`], packed, for each block, in order, or for the first of them, and
-//! then one [`Reply::Stop`].
+//! for. [`work`] does so block by block, asks a [`Gate`] before each, and stops if memory is
+//! refused or the gate does not let a block pass. Its contract says what was sent for what was
+//! taken: one [`Done`] for each block, in order, or for the first of them, and then one
+//! [`Reply::Stop`]. The tally stays with the worker, which hands it back at the end.
 #![tactic(auto)]
 
 mod ends;
@@ -15,8 +15,8 @@ mod trimming;
 mod worker;
 
 pub use ends::{WorkEnds, Worked};
-pub use fq_tally::{Done, PackedDone};
+pub use fq_tally::Done;
 pub use gate::{Gate, OpenGate};
 pub use reply::{Cause, Reply};
 pub use trimming::work_block;
-pub use worker::{work, work_tallied};
+pub use worker::work;

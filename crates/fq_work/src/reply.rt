@@ -1,6 +1,6 @@
 //! What a worker replies.
 
-use fq_tally::PackedDone;
+use fq_tally::Done;
 use fq_text::MemoryRefused;
 
 /// Why a worker stopped.
@@ -16,7 +16,7 @@ pub enum Cause {
 #[derive(Drop)]
 pub enum Reply {
     /// All pairs of the block were trimmed.
-    Done(PackedDone),
+    Done(Done),
     /// They were not, and no later block gets a reply.
     Stop(Cause),
 }

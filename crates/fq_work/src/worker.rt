@@ -1,8 +1,9 @@
 //! The worker of a threaded run.
 
-ghost use Rattle.std.specs.Prelude.{◌≡◌, ◌⊎◌, Some, Err, false, IsTrue, IfOk, OnOk};
+ghost use Rattle.std.specs.Prelude.{◌≡◌, ◌⊎◌, Some, None, Err, false, IsTrue, OnOk};
 ghost use Rattle.std.specs.Arc.{arc_value};
 ghost use Rattle.fq_lane.specs.History.{with_item};
+ghost use Rattle.fq_tally.specs.Results.{tally_with};
 ghost use Rattle.fq_work.specs.Replies.{done_of, reply_to};
 ghost use Rattle.fq_work.specs.Work.{IsWork, MayShut, HasAnswered, HasDrained};
 
@@ -12,8 +13,8 @@ use crate::reply::{Cause, Reply};
 use crate::trimming::work_block;
 use fq_block::Block;
 use fq_lane::{Rx, Taken, Tx};
-use fq_tally::{Done, PackedDone};
-use fq_text::{MemoryRefused, OutOfMemory};
+use fq_tally::{Done, Tally};
+use fq_text::MemoryRefused;
 use fq_trim::Steps;
 use std::alloc::Global;
 use std::sync::{Arc, Wait};
@@ -29,6 +30,9 @@ use std::sync::{Arc, Wait};
 /// Used blocks go back through `blocks_back`, and used texts come from `texts_back`, if there are
 /// any. The worker waits for neither lane.
 ///
+/// The pairs of each block are added to the tally of `ends`, if there is one, which is handed back
+/// at the end.
+///
 /// The worker waits for a block, and for room for a reply. So it does not return if nobody closes
 /// the lane of the blocks, or if nobody takes the replies.
 pub fn work<R: Wait, G: Gate>(
@@ -39,34 +43,13 @@ pub fn work<R: Wait, G: Gate>(
     gate: Arc<G>,
     gate_turns: u64,
 ) -> Worked
-    ensures work { IsWork false steps ends.rx ends.tx result }
-    ensures gate { result.cause ≡ Some Cause.Gate
-        → MayShut (G.holds (arc_value gate)) gate_turns }
-{
-    work_tallied(alloc, rt, ends, steps, false, gate, gate_turns)
-}
-
-/// Does what [`work`] does. With `tallied` each [`Done`] has the tally of its block, else none has.
-pub fn work_tallied<R: Wait, G: Gate>(
-    alloc: Global,
-    rt: &R,
-    ends: WorkEnds,
-    steps: Steps,
-    tallied: bool,
-    gate: Arc<G>,
-    gate_turns: u64,
-) -> Worked
-    ensures work { IsWork tallied steps ends.rx ends.tx result }
+    ensures work { IsWork steps ends.tally ends.rx ends.tx result }
     // It stops at the gate only if the gate may hold back a block, or if it may not ask.
     ensures gate { result.cause ≡ Some Cause.Gate
         → MayShut (G.holds (arc_value gate)) gate_turns }
 {
     let mut ends = ends;
-    let making = Making {
-        steps,
-        tallied,
-        gate_turns,
-    };
+    let making = Making { steps, gate_turns };
     let cause = answer_blocks(alloc, rt, &mut ends, &making, &*gate);
     if cause.is_some() {
         drain(rt, &mut ends);
@@ -76,6 +59,7 @@ pub fn work_tallied<R: Wait, G: Gate>(
         tx,
         blocks_back,
         texts_back,
+        tally,
     } = ends;
     drop(blocks_back);
     drop(texts_back);
@@ -83,14 +67,14 @@ pub fn work_tallied<R: Wait, G: Gate>(
         rx,
         closing: tx.close(),
         cause,
+        tally,
     }
 }
 
-// What the worker makes of each block, and how often it asks the gate about one.
+// What the worker does with each block, and how often it asks the gate about one.
 #[derive(Clone, Copy)]
 struct Making {
     steps: Steps,
-    tallied: bool,
     gate_turns: u64,
 }
 
@@ -102,18 +86,16 @@ fn answer_blocks<R: Wait, G: Gate>(
     making: &Making,
     gate: &G,
 ) -> Option<Cause>
-    ensures answers { HasAnswered making.now.tallied making.now.steps result
-        ends.old.rx ends.new.rx ends.old.tx ends.new.tx }
+    ensures answers { HasAnswered making.now.steps result
+        ends.old.tally ends.new.tally ends.old.rx ends.new.rx ends.old.tx ends.new.tx }
     ensures gate { result ≡ Some Cause.Gate
         → MayShut (G.holds gate.now) making.now.gate_turns }
 {
-    // The counts of one block at a time are made here, and packed for the lane.
-    let mut done = Done::new(alloc, 0);
     for _ in rt.forever() {
         let Some(block) = ends.rx.take_wait(rt) else {
             return None;
         };
-        if let Some(cause) = answer(alloc, rt, ends, block, making, gate, &mut done) {
+        if let Some(cause) = answer(alloc, rt, ends, block, making, gate) {
             return Some(cause);
         }
     }
@@ -128,18 +110,20 @@ fn answer<R: Wait, G: Gate>(
     block: Block,
     making: &Making,
     gate: &G,
-    done: &mut Done,
 ) -> Option<Cause>
     ensures sent { ends.new.tx
-        ≡ with_item ends.old.tx (reply_to making.now.tallied making.now.steps block result) }
+        ≡ with_item ends.old.tx (reply_to making.now.steps block result) }
     ensures blocks { ends.new.rx ≡ ends.old.rx }
+    ensures tally { result ≡ None
+        → ends.new.tally ≡ tally_with making.now.steps ends.old.tally block.pairs }
     ensures gate { result ≡ Some Cause.Gate
         → MayShut (G.holds gate.now) making.now.gate_turns }
 {
-    let worked = work_on(alloc, &block, making, gate, done, &mut ends.texts_back);
+    let mut done = used_texts(alloc, &mut ends.texts_back);
+    let worked = work_on(&block, making, gate, &mut done, &mut ends.tally);
     give_back(&mut ends.blocks_back, block);
     match worked {
-        Ok(done) => {
+        Ok(()) => {
             ends.tx.put(rt, Reply::Done(done));
             None
         }
@@ -154,6 +138,7 @@ fn answer<R: Wait, G: Gate>(
 fn drain<R: Wait>(rt: &R, ends: &mut WorkEnds)
     ensures drained { HasDrained ends.old.rx ends.new.rx }
     ensures replies { ends.new.tx ≡ ends.old.tx }
+    ensures tally { ends.new.tally ≡ ends.old.tally }
 {
     for _ in rt.forever() {
         match ends.rx.take_wait(rt) {
@@ -164,46 +149,26 @@ fn drain<R: Wait>(rt: &R, ends: &mut WorkEnds)
     unreachable!()
 }
 
-// Trims a block into used or new texts. Returns the cause if the gate or memory refused it.
+// Trims a block into these texts. Returns the cause if the gate or memory refused it.
 fn work_on<G: Gate>(
-    alloc: Global,
     block: &Block,
     making: &Making,
     gate: &G,
     done: &mut Done,
-    texts_back: &mut Rx<PackedDone>,
-) -> Result<PackedDone, Cause>
-    ensures ok { IfOk result (λ packed.
-        packed ≡ done_of making.now.tallied making.now.steps block.now) }
+    tally: &mut Option<Tally>,
+) -> Result<(), Cause>
+    ensures ok { OnOk result (done.new ≡ done_of making.now.steps block.now) }
+    ensures tally { OnOk result
+        (tally.new ≡ tally_with making.now.steps tally.old block.now.pairs) }
     ensures gate { result ≡ Err Cause.Gate
         → MayShut (G.holds gate.now) making.now.gate_turns }
 {
     if !passes(gate, block.number(), making.gate_turns) {
         return Err(Cause::Gate);
     }
-    let mut packed = used_texts(alloc, texts_back);
-    make(alloc, block, making, done, &mut packed).map_err(|error| Cause::Memory(MemoryRefused::from(
+    work_block(block, &making.steps, done, tally).map_err(|error| Cause::Memory(MemoryRefused::from(
         error,
-    )))?;
-    Ok(packed)
-}
-
-// Trims a block into the texts of `packed`, and packs its tally. `done` is the room for what is
-// made. It has the texts of `packed` for so long, and keeps its tally for the next block.
-fn make(
-    alloc: Global,
-    block: &Block,
-    making: &Making,
-    done: &mut Done,
-    packed: &mut PackedDone,
-) -> Result<(), OutOfMemory>
-    ensures { OnOk result
-        (packed.new ≡ done_of making.now.tallied making.now.steps block.now) }
-{
-    packed.exchange_texts(done);
-    done.ask(alloc, making.tallied)?;
-    work_block(block, &making.steps, done)?;
-    packed.take(alloc, done)
+    )))
 }
 
 // Asks the gate until it lets the block pass, at most `gate_turns` times.
@@ -219,10 +184,10 @@ fn passes<G: Gate>(gate: &G, number: u64, gate_turns: u64) -> bool
 }
 
 // Returns used texts that came back, which are not emptied yet, or new ones.
-fn used_texts(alloc: Global, texts_back: &mut Rx<PackedDone>) -> PackedDone {
+fn used_texts(alloc: Global, texts_back: &mut Rx<Done>) -> Done {
     match texts_back.take() {
-        Taken::Item(packed) => packed,
-        Taken::Empty | Taken::Closed => PackedDone::new(alloc),
+        Taken::Item(done) => done,
+        Taken::Empty | Taken::Closed => Done::new(alloc, 0),
     }
 }
 

@@ -1,6 +1,6 @@
 //! `do: tally` counts pairs under `steps`, in `encoding`. Each is a line `pair:
 //! SEQUENCE|QUALITY|SEQUENCE|QUALITY`; those of lines `other pair:` are counted apart and then
-//! added. If `clear` is `yes`, the tally is cleared at the end.
+//! added.
 //!
 //! Answers, for `forward` and `reverse`:
 //! - `before`, `paired` and `unpaired`, each with nine numbers: reads, bases, bases with a score of
@@ -86,9 +86,6 @@ pub fn tally_in(alloc: Global, given: &Given<'_>) -> Result<Box<Tally>> {
     let mut other = no_pairs(alloc)?;
     add_lines(&mut other, given, "other pair", encoding, &steps)?;
     add_tally(&mut tally, &other);
-    if given.text("clear")? == "yes" {
-        tally.clear();
-    }
     Ok(tally)
 }
 
@@ -193,7 +190,7 @@ fn put_kept(
 
 /// Puts the answers to a row of pairs that are counted.
 pub fn answer(alloc: Global, given: &Given<'_>, answers: &mut Answers) -> Result<()> {
-    given.allow(&["steps", "encoding", "pair", "other pair", "clear"])?;
+    given.allow(&["steps", "encoding", "pair", "other pair"])?;
     let steps = steps_in(alloc, given)?;
     let pair = pair_of(encoding_in(given)?, given.text("pair")?)?;
     put_kept(alloc, answers, "forward", &pair.forward, &steps)?;

@@ -1,7 +1,7 @@
 //! `do: done` has a worker's `work_block` trim the pairs of the texts `forward` and `reverse` by
 //! `steps`, all as the block `number`. It does so once for each word of `asks`, which are separated
-//! by commas, each time into the same `Done`; after `yes` the pairs are tallied, after `no` not.
-//! With `packed: yes` what is made is packed each time.
+//! by commas, each time into the same `Done`; after `yes` the pairs are added to a new tally, after
+//! `no` to none.
 //!
 //! Answers, for the last time: `number`, `counts`, `fp`, `fu`, `rp`, `ru` and `log`; `tallied`, and
 //! the answers of a `do: tally` row if so.
@@ -10,11 +10,11 @@
 //! worker asks the gate about a block at most `gate turns` times. The gate refuses the first
 //! `gate refuses` times, and the block `gate refuses block` each time. The lane of used blocks has
 //! room for `room` of them. With `tally: yes` the blocks are tallied. With `used texts: yes` the
-//! worker can take used texts, with a tally: those of the second of the two pairs, as block 7.
+//! worker can take used texts: those of the second of the two pairs, as block 7.
 //!
 //! Answers: `replies`, the number of each block that was answered, and `stop` for a stop; `cause`,
 //! why the worker stopped; with the number of a block in front, as in `0 fp`, the texts of a reply,
-//! its `counts`, and `tallied`, the number of forward reads that were tallied; `used blocks`, the
+//! its `counts`; `tallied`, the number of forward reads that the worker tallied; `used blocks`, the
 //! numbers of those that came back; `used texts taken`; `asked`, how often the gate was asked.
 
 ghost use Rattle.std.specs.Prelude.{◌≡◌, true, IfOk, OnOk};
@@ -34,7 +34,7 @@ use fq_samples::{SECOND_FORWARD, SECOND_REVERSE, ScriptGate, source_of};
 use fq_tally::Tally;
 use fq_text::{Encoding, ScriptFeed};
 use fq_trim::Steps;
-use fq_work::{Done, PackedDone, Reply, WorkEnds, Worked, work, work_block, work_tallied};
+use fq_work::{Done, Reply, WorkEnds, Worked, work, work_block};
 use std::alloc::Global;
 use std::fmt::Write;
 use std::sync::{Arc, Wait};
@@ -52,26 +52,13 @@ fn nothing_done(alloc: Global) -> Result<Box<Done>> {
     Ok(Box::new(alloc, Done::new(alloc, 0))?)
 }
 
-fn nothing_packed(alloc: Global) -> Result<Box<PackedDone>> {
-    Ok(Box::new(alloc, PackedDone::new(alloc))?)
-}
-
-fn no_tally(alloc: Global) -> Result<Box<Tally>> {
-    Ok(Box::new(alloc, Tally::new(alloc)?)?)
-}
-
-// Works on a block, with a tally or without.
-fn make(alloc: Global, block: &Block, steps: &Steps, tallied: bool, done: &mut Done) -> Result<()> {
-    done.ask(alloc, tallied)?;
-    work_block(block, steps, done)?;
-    Ok(())
-}
-
-// Packs what was made.
-fn pack(alloc: Global, done: &mut Done) -> Result<Box<PackedDone>> {
-    let mut packed = nothing_packed(alloc)?;
-    packed.take(alloc, done)?;
-    Ok(packed)
+// A new tally, if one is asked for.
+fn tally_if(alloc: Global, tallied: bool) -> Result<Option<Tally>> {
+    if tallied {
+        Ok(Some(Tally::new(alloc)?))
+    } else {
+        Ok(None)
+    }
 }
 
 // Puts texts and counts, with these words in front of their keys.
@@ -89,55 +76,36 @@ fn put_number(alloc: Global, answers: &mut Answers, key: &str, number: u64) -> R
     Ok(())
 }
 
-fn put_done(alloc: Global, answers: &mut Answers, done: &Done) -> Result<()> {
+fn put_done(
+    alloc: Global,
+    answers: &mut Answers,
+    done: &Done,
+    tally: &Option<Tally>,
+) -> Result<()> {
     put_number(alloc, answers, "number", done.number)?;
     put_texts(alloc, answers, "", &done.texts)?;
-    answers.put_yes("tallied", done.tally.is_some())?;
-    match &done.tally {
+    answers.put_yes("tallied", tally.is_some())?;
+    match tally {
         Some(tally) => put_tally(alloc, answers, tally),
         None => Ok(()),
     }
 }
 
-// Puts what was packed. Its tally is that of an empty one to which it is added.
-fn put_packed(
-    alloc: Global,
-    answers: &mut Answers,
-    packed: &PackedDone,
-    tallied: bool,
-) -> Result<()> {
-    put_number(alloc, answers, "number", packed.number())?;
-    put_texts(alloc, answers, "", packed.texts())?;
-    answers.put_yes("tallied", tallied)?;
-    if !tallied {
-        return Ok(());
-    }
-    let mut tally = no_tally(alloc)?;
-    packed.add_tally_to(&mut tally);
-    put_tally(alloc, answers, &tally)
-}
-
 // Works on a block once for each word of a row, and puts what was made the last time.
 fn put_made(alloc: Global, given: &Given<'_>, answers: &mut Answers, block: &Block) -> Result<()> {
     let steps = steps_in(alloc, given)?;
-    let is_packed = given.text("packed")? == "yes";
     let mut done = nothing_done(alloc)?;
-    let mut packed = nothing_packed(alloc)?;
+    let mut tally = None;
     for word in given.text("asks")?.split(',') {
-        make(alloc, block, &steps, word == "yes", &mut done)?;
-        if is_packed {
-            packed = pack(alloc, &mut done)?;
-        }
+        tally = tally_if(alloc, word == "yes")?;
+        work_block(block, &steps, &mut done, &mut tally)?;
     }
-    if is_packed {
-        return put_packed(alloc, answers, &packed, done.tally.is_some());
-    }
-    put_done(alloc, answers, &done)
+    put_done(alloc, answers, &done, &tally)
 }
 
 /// Puts the answers to a `do: done` row.
 pub fn answer_done(alloc: Global, given: &Given<'_>, answers: &mut Answers) -> Result<()> {
-    given.allow(&["forward", "reverse", "steps", "number", "asks", "packed"])?;
+    given.allow(&["forward", "reverse", "steps", "number", "asks"])?;
     let mut block = no_pairs(alloc, given.number("number", 0)?)?;
     push_row(alloc, &mut block, given, 100)?;
     put_made(alloc, given, answers, &block)
@@ -153,11 +121,11 @@ fn second_pair(alloc: Global) -> Result<Box<Block>> {
     Ok(block)
 }
 
-fn used_texts(alloc: Global, steps: &Steps) -> Result<Box<PackedDone>> {
+fn used_texts(alloc: Global, steps: &Steps) -> Result<Box<Done>> {
     let block = second_pair(alloc)?;
     let mut done = nothing_done(alloc)?;
-    make(alloc, &block, steps, true, &mut done)?;
-    pack(alloc, &mut done)
+    work_block(&block, steps, &mut done, &mut None)?;
+    Ok(done)
 }
 
 // Whether the lane has room for the item. Generic, as are the next three functions: a proof about
@@ -260,11 +228,7 @@ fn work_on<R: Wait>(
     ensures blocks { (result.rx.name ≡ ends.rx.name) × (result.rx.marked ≡ true) }
     ensures replies { IfOk result.closing (λ end. end.name ≡ ends.tx.name) }
 {
-    if task.tallied {
-        work_tallied(alloc, rt, ends, task.steps, true, gate, task.gate_turns)
-    } else {
-        work(alloc, rt, ends, task.steps, gate, task.gate_turns)
-    }
+    work(alloc, rt, ends, task.steps, gate, task.gate_turns)
 }
 
 // Puts what the reply to a block says.
@@ -273,22 +237,13 @@ fn put_reply(alloc: Global, answers: &mut Answers, said: &mut String, reply: &Re
         write!(said, " stop")?;
         return Ok(());
     };
-    let number = done.number();
+    let number = done.number;
     write!(said, " {number}")?;
     put_texts(
         alloc,
         answers,
         &format!(in alloc; "{number} ")?,
-        done.texts(),
-    )?;
-    let mut tally = no_tally(alloc)?;
-    done.add_tally_to(&mut tally);
-    let reads = tally.forward.counts().before.reads;
-    put_number(
-        alloc,
-        answers,
-        &format!(in alloc; "{number} tallied")?,
-        reads,
+        &done.texts,
     )
 }
 
@@ -326,7 +281,13 @@ fn put_worked(
         mut rx,
         closing,
         cause,
+        tally,
     } = worked;
+    let reads = match &tally {
+        Some(tally) => tally.forward.counts().before.reads,
+        None => 0,
+    };
+    put_number(alloc, answers, "tallied", reads)?;
     answers.put("cause", format!(in alloc; "{cause:?}")?.as_bytes())?;
     put_replies(alloc, answers, &mut replies)?;
     let Ok(end) = closing else {
@@ -344,7 +305,7 @@ fn put_work<R: Wait>(
     given: &Given<'_>,
     answers: &mut Answers,
     blocks_back: Tx<Block>,
-    texts_back: Rx<PackedDone>,
+    texts_back: Rx<Done>,
     gate: Arc<ScriptGate>,
 ) -> Result<()> {
     let task = task_in(alloc, given)?;
@@ -356,6 +317,7 @@ fn put_work<R: Wait>(
         tx,
         blocks_back,
         texts_back,
+        tally: tally_if(alloc, task.tallied)?,
     };
     let worked = work_on(rt, alloc, &task, ends, gate);
     put_worked(alloc, answers, worked, dealt, replies)
@@ -378,16 +340,13 @@ fn put_used(alloc: Global, answers: &mut Answers, mut used: Rx<Block>) -> Result
 }
 
 // The lane of used texts. Its sender is dropped if the row has none. Otherwise they fill the lane.
-fn texts_lane(
-    alloc: Global,
-    given: &Given<'_>,
-) -> Result<(Option<Tx<PackedDone>>, Rx<PackedDone>)> {
+fn texts_lane(alloc: Global, given: &Given<'_>) -> Result<(Option<Tx<Done>>, Rx<Done>)> {
     let (mut texts, texts_back) = lane_of(alloc, 1)?;
     if given.text("used texts")? != "yes" {
         return Ok((None, texts_back));
     }
     let used = used_texts(alloc, &steps_in(alloc, given)?)?;
-    if !offers(&mut texts, used) || offers(&mut texts, nothing_packed(alloc)?) {
+    if !offers(&mut texts, used) || offers(&mut texts, nothing_done(alloc)?) {
         bail!("the lane of used texts has not room for one");
     }
     Ok((Some(texts), texts_back))
@@ -418,7 +377,7 @@ pub fn answer<R: Wait>(
     put_work(rt, alloc, given, answers, blocks_back, texts_back, shared)?;
     put_used(alloc, answers, used)?;
     if let Some(mut texts) = texts {
-        let is_free = offers(&mut texts, nothing_packed(alloc)?);
+        let is_free = offers(&mut texts, nothing_done(alloc)?);
         answers.put_yes("used texts taken", is_free)?;
     }
     put_number(alloc, answers, "asked", gate.asked())

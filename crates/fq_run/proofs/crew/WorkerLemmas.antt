@@ -7,7 +7,10 @@ use Rattle.fq_lane.specs.History.{History, Name, with_mark}
 use Rattle.fq_lane.specs.declared.tx.NotEnded.{NotEnded}
 use Rattle.fq_block.specs.Blocks.{Numbered}
 use Rattle.fq_work.specs.Replies.{Answers}
-use Rattle.fq_work.specs.Work.{with_items}
+use Rattle.fq_work.specs.Work.{pairs_of, with_items}
+use Rattle.fq_tally.specs.declared.tally.Tally.{Tally}
+use Rattle.fq_tally.specs.Results.{tally_if, tally_with}
+use Rattle.fq_tally.proofs.ResultLemmas.{with_none}
 use Rattle.fq_work.specs.declared.ends.WorkEnds.{WorkEnds}
 use Rattle.fq_work.specs.declared.ends.Worked.{Worked}
 use Rattle.fq_work.specs.declared.reply.Cause.{Cause}
@@ -41,36 +44,40 @@ dealt_none : {T : Type 0} → IsDealt {T = T} 0 [] []
 dealt_none = record { lanes = refl; items = λ j d lt. absurd (omega arith) }
 
 -- nothing is dealt to new lanes, and there are as many lanes to the workers as from them
-laid_dealt : (ts : List (History Numbered)) (es : List WorkEnds) (fs : List (History Reply)) →
-    Each3 Laid ts es fs → IsDealt (length ts) [] ts × IsDealt (length ts) [] fs
-laid_dealt [] [] [] h = (dealt_none, dealt_none)
-laid_dealt (t ∷ ts) (e ∷ es) (f ∷ fs) h =
+laid_dealt : (tallied : Bool) (ts : List (History Numbered)) (es : List WorkEnds)
+    (fs : List (History Reply)) →
+    Each3 (Laid tallied) ts es fs → IsDealt (length ts) [] ts × IsDealt (length ts) [] fs
+laid_dealt tallied [] [] [] h = (dealt_none, dealt_none)
+laid_dealt tallied (t ∷ ts) (e ∷ es) (f ∷ fs) h =
     let l = h.0 in
-    let rest = laid_dealt ts es fs h.1 in (
+    let rest = laid_dealt tallied ts es fs h.1 in (
       dealt_more (length ts) t ts (ap (λ (x : History Numbered). x.items) l.to_is) rest.0,
       dealt_more
           (length ts) f fs (ap (λ (x : History Reply). x.items) l.replies_are) rest.1,
     )
-laid_dealt [] [] (f ∷ fs) h = absurd h
-laid_dealt [] (e ∷ es) fs h = absurd h
-laid_dealt (t ∷ ts) [] fs h = absurd h
-laid_dealt (t ∷ ts) (e ∷ es) [] h = absurd h
+laid_dealt tallied [] [] (f ∷ fs) h = absurd h
+laid_dealt tallied [] (e ∷ es) fs h = absurd h
+laid_dealt tallied (t ∷ ts) [] fs h = absurd h
+laid_dealt tallied (t ∷ ts) (e ∷ es) [] h = absurd h
 
 -- there are as many new lanes to the workers as from them
-pub laid_length : (ts : List (History Numbered)) (es : List WorkEnds) (fs : List (History Reply)) →
-    Each3 Laid ts es fs → length ts ≡ length fs
-laid_length ts es fs h = let replies = (laid_dealt ts es fs h).1 in sym replies.lanes
+pub laid_length : (tallied : Bool) (ts : List (History Numbered)) (es : List WorkEnds)
+    (fs : List (History Reply)) → Each3 (Laid tallied) ts es fs → length ts ≡ length fs
+laid_length tallied ts es fs h =
+    let replies = (laid_dealt tallied ts es fs h).1 in sym replies.lanes
 
 -- nothing was dealt yet to the new lanes of w workers
-pub to_dealt : (w : ℕ) (ts : List (History Numbered)) (es : List WorkEnds)
-    (fs : List (History Reply)) → length ts ≡ w → Each3 Laid ts es fs → IsDealt w [] ts
-to_dealt w ts es fs len h = subst (λ n. IsDealt n [] ts) len (laid_dealt ts es fs h).0
+pub to_dealt : (tallied : Bool) (w : ℕ) (ts : List (History Numbered)) (es : List WorkEnds)
+    (fs : List (History Reply)) → length ts ≡ w → Each3 (Laid tallied) ts es fs → IsDealt w [] ts
+to_dealt tallied w ts es fs len h =
+    subst (λ n. IsDealt n [] ts) len (laid_dealt tallied ts es fs h).0
 
 -- nothing came yet through the new lanes from w workers
-pub replies_dealt : (w : ℕ) (ts : List (History Numbered)) (es : List WorkEnds)
-    (fs : List (History Reply)) → length fs ≡ w → Each3 Laid ts es fs → IsDealt w [] fs
-replies_dealt w ts es fs len h = subst (λ n. IsDealt n [] fs) (laid_length ts es fs h ∙ len)
-    (laid_dealt ts es fs h).1
+pub replies_dealt : (tallied : Bool) (w : ℕ) (ts : List (History Numbered)) (es : List WorkEnds)
+    (fs : List (History Reply)) → length fs ≡ w → Each3 (Laid tallied) ts es fs → IsDealt w [] fs
+replies_dealt tallied w ts es fs len h =
+    subst (λ n. IsDealt n [] fs) (laid_length tallied ts es fs h ∙ len)
+    (laid_dealt tallied ts es fs h).1
 
 -- After the joins.
 
@@ -83,12 +90,14 @@ module _ (tallied : Bool) (steps : List Step) (holds : Bool) where
     pub closed : w.rx.marked ≡ true
     -- what it sent through lane m, if the lane has ended, answers these blocks
     pub answers : IfOk w.closing (λ e. (e.name ≡ m)
-        × Answers tallied steps w.rx.items e.items w.cause)
+        × Answers steps w.rx.items e.items w.cause)
     -- if it stopped at the gate, the gate may hold back a block
     pub gate : w.cause ≡ Some Gate → IsTrue holds
+    -- if it answered all of them, it counted their pairs
+    pub counted : w.cause ≡ None → w.tally ≡ tally_if tallied steps (pairs_of w.rx.items)
 
   answered : (t : History Numbered) (e : WorkEnds) (f : History Reply)
-      (h : PromisedHandle Worked Job) (w : Worked) → Laid t e f → Seated tallied steps holds e h →
+      (h : PromisedHandle Worked Job) (w : Worked) → Laid tallied t e f → Seated steps holds e h →
       Joined h w → Answered t.name f.name w
   answered t e f h w l s joined =
       let j = joined.0 in
@@ -101,27 +110,30 @@ module _ (tallied : Bool) (steps : List Step) (holds : Bool) where
         name = ap (λ x. x.name) j.received ∙ ap (λ (x : History Numbered). x.name) rx;
         closed = ap (λ x. x.marked) j.received;
         answers = weaker (λ x. x ≡ with_items h.promise.tx.value j.replies true)
-            (λ x. (x.name ≡ f.name) × Answers tallied steps w.rx.items x.items w.cause)
+            (λ x. (x.name ≡ f.name) × Answers steps w.rx.items x.items w.cause)
             (λ x q.
             (let sent : x.items ≡ j.replies = ap (λ y. y.items) q
             ∙ ap (λ (y : History Reply). y.items ++ j.replies) tx in
-            let P : List Step → Type 0 = λ s. Answers h.promise.tallied s took j.replies w.cause in
-            let Q : Bool → Type 0 = λ b. Answers b steps took j.replies w.cause in
-            let a : Answers tallied steps took j.replies w.cause =
-            subst Q s.tallied_is (subst P s.steps_are j.answers) in (
+            let P : List Step → Type 0 = λ s. Answers s took j.replies w.cause in
+            let a : Answers steps took j.replies w.cause = subst P s.steps_are j.answers in (
               ap (λ y. y.name) q ∙ ap (λ (y : History Reply). y.name) tx,
-              subst (λ bs. Answers tallied steps bs x.items w.cause) came
-                  (subst (λ rs. Answers tallied steps took rs w.cause) (sym sent) a),
+              subst (λ bs. Answers steps bs x.items w.cause) came
+                  (subst (λ rs. Answers steps took rs w.cause) (sym sent) a),
             ))) w.closing j.sent;
         gate = λ at. let some = s.asks in
             ⊎_elim (λ never. absurd (omega (arith, some, never)))
             (λ may. subst IsTrue s.holds_is may) (joined.1 at);
+        counted = λ none. j.counted none
+            ∙ ap (λ (b : List Step). tally_with b h.promise.tally.value (pairs_of took)) s.steps_are
+            ∙ ap (λ (t : Option Tally). tally_with steps t (pairs_of took)) (s.tally ∙ l.tally)
+            ∙ with_none tallied steps (pairs_of took)
+            ∙ ap (λ (bs : List Numbered). tally_if tallied steps (pairs_of bs)) came;
       }
 
   -- each worker that was joined has answered the blocks that came through its lane
   pub all_answered : (ts : List (History Numbered)) (es : List WorkEnds) (fs : List (History Reply))
       (hs : List (PromisedHandle Worked Job)) (ws : List Worked) →
-      Each3 Laid ts es fs → AllZip (Seated tallied steps holds) es hs → AllZip Joined hs ws →
+      Each3 (Laid tallied) ts es fs → AllZip (Seated steps holds) es hs → AllZip Joined hs ws →
       Each3 Answered (names_of ts) (names_of fs) ws
   all_answered [] [] [] [] [] l s j = tt
   all_answered (t ∷ ts) (e ∷ es) (f ∷ fs) (h ∷ hs) (w ∷ ws) l s j =
@@ -149,7 +161,7 @@ module _ (tallied : Bool) (steps : List Step) (holds : Bool) where
     blocks = weaker (λ e. e ≡ with_mark t) (λ e. e.name ≡ w.rx.name) (λ e q. ap (λ l. l.name) q
         ∙ sym a.name) c h;
     came = a.closed;
-    sent = weaker (λ e. (e.name ≡ f.name) × Answers tallied steps w.rx.items e.items w.cause)
+    sent = weaker (λ e. (e.name ≡ f.name) × Answers steps w.rx.items e.items w.cause)
         (λ e. e.name ≡ f.name) (λ e q. q.0) w.closing a.answers;
     got = m;
   }
@@ -174,16 +186,16 @@ module _ (tallied : Bool) (steps : List Step) (holds : Bool) where
   -- After the lanes are confirmed.
 
   matched_by : (n m : Name) (e r : History Numbered) (x f : History Reply) (cause : Option Cause) →
-      r ≡ e → f ≡ x → Answers tallied steps r.items x.items cause →
-      Answers tallied steps e.items f.items cause
+      r ≡ e → f ≡ x → Answers steps r.items x.items cause →
+      Answers steps e.items f.items cause
   matched_by n m e r x f cause rx same a =
-      subst (λ (l : History Numbered). Answers tallied steps l.items f.items cause) rx
-      (subst (λ (l : History Reply). Answers tallied steps r.items l.items cause) (sym same) a)
+      subst (λ (l : History Numbered). Answers steps l.items f.items cause) rx
+      (subst (λ (l : History Reply). Answers steps r.items l.items cause) (sym same) a)
 
   matched_one : (n m : Name) (c : Result (History Numbered) NotEnded) (w : Worked)
       (f : History Reply) (replied : Result (History Reply) NotEnded) →
-      IfOk replied (λ e. (e.name ≡ m) × Answers tallied steps w.rx.items e.items w.cause) →
-      IsOkAnd c (λ e. w.rx ≡ e) → IsOkAnd replied (λ e. f ≡ e) → Matched tallied steps c f
+      IfOk replied (λ e. (e.name ≡ m) × Answers steps w.rx.items e.items w.cause) →
+      IsOkAnd c (λ e. w.rx ≡ e) → IsOkAnd replied (λ e. f ≡ e) → Matched steps c f
   matched_one n m (Ok e) w f (Ok x) a rx same =
       (w.cause, matched_by n m e w.rx x f w.cause rx same a.1)
   matched_one n m (Err e) w f replied a rx same = absurd rx
@@ -192,7 +204,7 @@ module _ (tallied : Bool) (steps : List Step) (holds : Bool) where
   -- on confirmed lanes the replies that came are those to the blocks that were sent
   pub matched : (ns ms : List Name) (cs : List (Result (History Numbered) NotEnded))
       (ws : List Worked) (fs : List (History Reply)) → Each3 Answered ns ms ws →
-      Each3 Confirmed cs ws fs → AllZip (Matched tallied steps) cs fs
+      Each3 Confirmed cs ws fs → AllZip (Matched steps) cs fs
   matched [] [] [] [] [] a k = tt
   matched (n ∷ ns) (m ∷ ms) (c ∷ cs) (w ∷ ws) (f ∷ fs) a k = (
     let first = a.0 in matched_one n m c w f w.closing first.answers k.0.0 k.0.1,
@@ -210,7 +222,7 @@ module _ (tallied : Bool) (steps : List Step) (holds : Bool) where
 
   -- if a reply is a stop at the gate, so the worker stopped
   stopped_so : (bs : List Numbered) (rs : List Reply) (cause : Option Cause) →
-      Answers tallied steps bs rs cause → list_any (is_stop Gate) rs ≡ true → cause ≡ Some Gate
+      Answers steps bs rs cause → list_any (is_stop Gate) rs ≡ true → cause ≡ Some Gate
   stopped_so bs [] cause a came = absurd cc
   stopped_so [] (r ∷ rs) cause a came = absurd a
   stopped_so (b ∷ bs) (done d ∷ rs) cause a came = stopped_so bs rs cause a.1 came
@@ -221,7 +233,7 @@ module _ (tallied : Bool) (steps : List Step) (holds : Bool) where
 
   shut_one : (n m : Name) (w : Worked) (f : History Reply)
       (replied : Result (History Reply) NotEnded) →
-      IfOk replied (λ e. (e.name ≡ m) × Answers tallied steps w.rx.items e.items w.cause) →
+      IfOk replied (λ e. (e.name ≡ m) × Answers steps w.rx.items e.items w.cause) →
       IsOkAnd replied (λ e. f ≡ e) → list_any (is_stop Gate) f.items ≡ true → w.cause ≡ Some Gate
   shut_one n m w f (Ok e) a same came = stopped_so w.rx.items e.items w.cause a.1
       (ap (λ (l : History Reply). list_any (is_stop Gate) l.items) (sym same) ∙ came)

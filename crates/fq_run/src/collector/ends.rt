@@ -1,7 +1,7 @@
 //! The collector's ends of lanes.
 
 use fq_lane::{Rx, Tx};
-use fq_work::{PackedDone, Reply};
+use fq_work::{Done, Reply};
 use std::marker::Model;
 
 /// The collector's ends of the lanes of one worker. Contracts see the lane of replies alone.
@@ -9,8 +9,8 @@ use std::marker::Model;
 pub(crate) struct CollectorEnds {
     /// The replies of the worker.
     pub(crate) replies: Rx<Reply>,
-    /// Written texts with their tally, back to the worker.
-    pub(crate) back: Tx<PackedDone>,
+    /// Written texts, back to the worker.
+    pub(crate) back: Tx<Done>,
 }
 
 impl Model for CollectorEnds {

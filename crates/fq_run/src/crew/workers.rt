@@ -7,7 +7,7 @@ ghost use Rattle.fq_run.specs.crew.Workers.{Seated, Joined};
 
 use crate::crew::job::Job;
 use fq_run_core::Settings;
-use fq_work::{Gate, WorkEnds, Worked, work_tallied};
+use fq_work::{Gate, WorkEnds, Worked, work};
 use std::alloc::Global;
 use std::snapshot::Snapshot;
 use std::sync::{Arc, Wait};
@@ -26,7 +26,7 @@ pub(crate) fn start_workers<R: Threads + Wait + Copy + Send + 'static, H: Gate +
 ) -> Result<Vec<PromisedHandle<Worked, Job>>, Vec<PromisedHandle<Worked, Job>>>
     requires { (hands.items ≡ []) × (vec_len seats ≤ vec_capacity hands) }
     ensures all { IfOk result (λ hands.
-        AllZip (Seated settings.now.tallied settings.now.steps (H.holds (arc_value gate.now)))
+        AllZip (Seated settings.now.steps (H.holds (arc_value gate.now)))
         seats.items hands.items) }
     ensures few { (IfOk result (λ hands. vec_len hands ≤ vec_len seats))
         × (IfErr result (λ started. vec_len started ≤ vec_len seats)) }
@@ -52,23 +52,21 @@ fn start_worker<R: Threads + Wait + Copy + Send + 'static, H: Gate + 'static>(
     gate: Arc<H>,
     ends: WorkEnds,
 ) -> Option<PromisedHandle<Worked, Job>>
-    ensures { IfSome result (Seated settings.now.tallied settings.now.steps
-        (H.holds (arc_value gate)) ends) }
+    ensures { IfSome result (Seated settings.now.steps (H.holds (arc_value gate)) ends) }
 {
     let job = Job {
         steps: *settings.steps(),
-        tallied: settings.tallied(),
         rx: Snapshot::of(&ends.rx),
         tx: Snapshot::of(&ends.tx),
+        tally: Snapshot::of(&ends.tally),
         holds: (*gate).may_hold(),
         gate_turns: settings.gate_turns(),
     };
     let own = *rt;
     let steps = *settings.steps();
-    let tallied = settings.tallied();
     let gate_turns = settings.gate_turns();
     thread::spawn_with(rt, job, move || {
-        work_tallied(alloc, &own, ends, steps, tallied, gate, gate_turns)
+        work(alloc, &own, ends, steps, gate, gate_turns)
     })
     .ok()
 }

@@ -1,7 +1,6 @@
 -- If a thread was refused, nothing was written.
 use Rattle.std.proofs.Common.{refl, sym, ap, subst, arith}
 use Rattle.std.specs.Arc.{arc_value}
-use Rattle.fq_run_core.specs.declared.total.Total.{Total}
 use Rattle.fq_run_core.specs.Devices.{outlet_states}
 use Rattle.fq_run_core.specs.PairsRead.{feed_in}
 use Rattle.fq_run.specs.Threads.{IsThreaded, run_from}
@@ -12,7 +11,7 @@ use Rattle.fq_run.proofs.threads.start.Goals as goal
 -- the dealer's lanes are new, and nothing was read from its source
 pub start_dealer-requires-clause-deals : goal.start_dealer-requires-clause-deals
 start_dealer-requires-clause-deals g c κs within =
-    can_deal _ c.args.settings.now _ c.args.dealer c.args.ready c.requires.ready
+    can_deal _ _ c.args.settings.now _ c.args.dealer c.args.ready c.requires.ready
     (omega (arith, c.args.dealer.to.ok.0)) c.requires.fresh c.requires.few
 
 -- if the dealer's thread is refused, the feeds are lost, and nothing is written
@@ -24,13 +23,8 @@ returns-in_default g c =
     λ e. IsThreaded c.args.settings.now (g.H.Gate.holds (arc_value c.args.gate.now))
     (run_from s.state (s.state c.args.dealer.source) (states
     c.args.outlets.now) (states c.args.outlets.now) e) e.unended e.refused in
-    subst P (sym c.unstarted.ensures) (unstarted _ _ refl (ap (λ (t : Total). t.counts)
-    c.requires.total) (ap (λ (t : Total). t.tally) c.requires.total) (record {
-      outlets =
-          refl;
-      forward = tt;
-      reverse = tt;
-    }) (λ gone. refl, λ gone. refl) _)
+    subst P (sym c.unstarted.ensures) (unstarted _ _ refl refl refl
+    (record { outlets = refl; forward = tt; reverse = tt }) (λ gone. refl, λ gone. refl) _)
 
 -- if a worker is refused, nothing is written, and feeds that are handed back are as they were
 pub returns-in-Err : goal.returns-in-Err
@@ -46,11 +40,7 @@ returns-in-Err g c =
     (idle s.state _ _ _ _ _ _ _ _ _ c.join.result.source left
     (ap s.state c.in-Some.ensures.source) refl c.join.ensures c.into_unread-source.ensures) in
     subst P (sym c.unstarted-in-Err.ensures)
-    (unstarted _ _ refl (ap (λ (t : Total). t.counts) c.requires.total)
-    (ap (λ (t : Total). t.tally) c.requires.total) (record {
-      outlets = refl;
-      forward =
-          back.0;
-      reverse = back.1;
-    }) (of_one (λ x. feed_in (s.state x).forward) (λ x. feed_in
+    (unstarted _ _ refl refl refl
+    (record { outlets = refl; forward = back.0; reverse = back.1 })
+    (of_one (λ x. feed_in (s.state x).forward) (λ x. feed_in
     (s.state x).reverse) left) _)

@@ -1,6 +1,6 @@
 -- Each pair that is read goes to the block's texts and tally, until memory is refused or no pair is
 -- left.
-use Rattle.std.proofs.Common.{◌≡◌, is_some, arith, refl}
+use Rattle.std.proofs.Common.{◌≡◌, arith, refl}
 use Rattle.fq_pair.specs.Mates.{name_lengths}
 use Rattle.fq_run_core.proofs.WalkLemmas.{is_in_hand, of_in_hand, if_in_hand}
 use Rattle.fq_run_core.proofs.GatherLemmas.{gathered_none, gathered_more, gathered_few, gathers_full, gathers_end, gathers_fault, gathers_refused, err_says, ok_says}
@@ -8,7 +8,7 @@ use Rattle.fq_run_core.proofs.gathering.gather.Goals as goal
 
 -- before the first pair the texts and the tally are those of no pairs
 pub loop-init : goal.loop-init
-loop-init g c = gathered_none (is_some c.args.done.now.tally) c.args.steps.now _ _ c.requires.goes
+loop-init g c = gathered_none c.args.steps.now c.args.tally.now _ _ c.requires.goes
     c.requires.clear
 
 -- after a call that read a pair there is one in hand
@@ -30,25 +30,27 @@ add-requires-clause-names g c = if_in_hand _ _ (λ m. c.names_in_hand-names.resu
 
 -- the count of the pairs has room for one more
 pub add-requires-clause-room : goal.add-requires-clause-room
-add-requires-clause-room g c = let few = gathered_few (is_some c.args.done.now.tally)
-    c.args.steps.now _ _ _ _ c.loop.invariant in omega arith
+add-requires-clause-room g c = let few = gathered_few c.args.steps.now
+    c.args.tally.now _ _ _ _ _ c.loop.invariant in omega arith
 
 -- if memory for a pair is refused, the block has the pairs before it
 pub returns-then-is_err : goal.returns-then-is_err
 returns-then-is_err g c = let i = c.loop.invariant in let goes = i.goes in
     let asked = rw c.in-Ok-true.field-0-test at c.in-Ok-true.ensures in
     let read = of_in_hand _ _ _ c.pair_in_hand-pair.ensures (asked.advances goes.last) in
-    gathers_refused (is_some c.args.done.now.tally) c.args.steps.now _ _ _ _ _ _ _ _ (omega arith)
+    gathers_refused c.args.steps.now c.args.tally.now _ _ _ _ _ _ _ _ _ _ (omega arith)
     c.loop.invariant read
     (err_says c.add.result c.is_err.result _ c.is_err.ensures.value c.if-is_err.true
     c.add.ensures.err)
+    (err_says c.add.result c.is_err.result _ c.is_err.ensures.value c.if-is_err.true
+    c.add.ensures.kept)
 
 -- at the end of the input the block has the pairs before the end
 pub returns-in-Ok-false : goal.returns-in-Ok-false
 returns-in-Ok-false g c = let i = c.loop.invariant in let goes = i.goes in
     let asked = rw c.in-Ok-false.field-0-test at c.in-Ok-false.ensures in
     let met = asked.advances goes.last in
-    gathers_end (is_some c.args.done.now.tally) c.args.steps.now _ _ _ _ _ _ (omega arith)
+    gathers_end c.args.steps.now c.args.tally.now _ _ _ _ _ _ _ (omega arith)
     c.loop.invariant met.0
 
 -- at a fault the block has the pairs before the fault
@@ -56,7 +58,7 @@ pub returns-in-Err : goal.returns-in-Err
 returns-in-Err g c = let i = c.loop.invariant in let goes = i.goes in
     let asked = c.in-Err.ensures in
     let met = asked.advances goes.last in
-    gathers_fault (is_some c.args.done.now.tally) c.args.steps.now _ _ _ _ _ _ _ (omega arith)
+    gathers_fault c.args.steps.now c.args.tally.now _ _ _ _ _ _ _ _ (omega arith)
     c.loop.invariant met.0
 
 -- a pair that was read and added is one more pair of the block
@@ -65,12 +67,14 @@ loop-preserved g c = let i = c.loop.invariant in let goes = i.goes in
     let asked = rw c.in-Ok-true.field-0-test at c.in-Ok-true.ensures in
     let pair = c.pair_in_hand-pair.result in
     let read = of_in_hand _ _ _ c.pair_in_hand-pair.ensures (asked.advances goes.last) in
-    gathered_more (is_some c.args.done.now.tally) c.args.steps.now _ _ _ _ _ _ _ c.loop.invariant
+    gathered_more c.args.steps.now c.args.tally.now _ _ _ _ _ _ _ _ _ c.loop.invariant
     read asked.within pair.forward pair.reverse refl refl
     (ok_says c.add.result c.is_err.result _ c.is_err.ensures.value c.if-is_err.false
     c.add.ensures.ok)
+    (ok_says c.add.result c.is_err.result _ c.is_err.ensures.value c.if-is_err.false
+    c.add.ensures.tally)
 
 -- after the last turn the block is full
 pub returns : goal.returns
-returns g c = gathers_full (is_some c.args.done.now.tally) c.args.steps.now _ _ _ _ _ (omega arith)
+returns g c = gathers_full c.args.steps.now c.args.tally.now _ _ _ _ _ _ (omega arith)
     c.loop.invariant

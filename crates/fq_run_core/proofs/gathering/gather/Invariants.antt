@@ -1,5 +1,4 @@
 -- After each round of the loop the texts and the tally have one more pair.
-use Rattle.std.proofs.Common.{is_some}
 use Rattle.fq_run_core.proofs.GatherLemmas.{Gathered}
 use Rattle.fq_run_core.proofs.gathering.gather.Given as goal
 
@@ -7,5 +6,5 @@ use Rattle.fq_run_core.proofs.gathering.gather.Given as goal
 abbrev pub invariant-loop : goal.invariant-loop
 invariant-loop g l =
     let s = g.S.PairReader in
-    Gathered (s.state l.fn.source) (s.state l.source) (is_some l.fn.done.tally) l.fn.steps l.done
+    Gathered (s.state l.fn.source) (s.state l.source) l.fn.steps l.fn.tally l.tally l.done
     l.counter

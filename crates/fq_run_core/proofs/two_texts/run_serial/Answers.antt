@@ -13,19 +13,22 @@ flush_after-failed-requires g c = runs_healthy _ c.args.settings.now _ _ _ _ _ _
 pub returns-clause-serial : goal.returns-clause-serial
 returns-clause-serial g c =
     serial_rank _ c.args.settings.now _ _ _ _ _ _ _ _ _ _ c.pass-written.ensures _ _ _
-    c.flush_after-failed.ensures (c.outcome.ensures
-    ∙ ap outcome_of c.new.ensures) c.requires.forward c.requires.reverse refl
+    c.flush_after-failed.ensures (c.outcome-outcome.ensures
+    ∙ ap outcome_of c.new.ensures) c.requires.forward c.requires.reverse c.at_end-total.result
+    c.at_end-total.ensures refl
 
 -- at the end of the input, or at a fault in it, all pairs are trimmed
 pub returns-clause-whole : goal.returns-clause-whole
 returns-clause-whole g c =
     run_whole _ c.args.settings.now _ _ _ _ _ _ _ _ _ _ c.pass-written.ensures _ _ _
-    c.flush_after-failed.ensures (c.outcome.ensures
-    ∙ ap outcome_of c.new.ensures) c.requires.forward c.requires.reverse
+    c.flush_after-failed.ensures (c.outcome-outcome.ensures
+    ∙ ap outcome_of c.new.ensures) c.requires.forward c.requires.reverse c.at_end-total.result
+    c.at_end-total.ensures
 
 -- however the run ended, the outlets have the texts of the first pairs
 pub returns-clause-every : goal.returns-clause-every
 returns-clause-every g c =
     run_every _ c.args.settings.now _ _ _ _ _ _ _ _ _ _ c.pass-written.ensures _ _ _
-    c.flush_after-failed.ensures (c.outcome.ensures
-    ∙ ap outcome_of c.new.ensures) c.requires.forward c.requires.reverse
+    c.flush_after-failed.ensures (c.outcome-outcome.ensures
+    ∙ ap outcome_of c.new.ensures) c.requires.forward c.requires.reverse c.at_end-total.result
+    c.at_end-total.ensures

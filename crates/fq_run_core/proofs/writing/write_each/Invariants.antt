@@ -1,17 +1,16 @@
--- All blocks so far are written completely, and there is a tally if one is asked for. Each full
--- block brings the end nearer, since it takes bytes.
-use Rattle.std.proofs.Common.{◌≡◌, ◌-◌, is_some}
+-- All blocks so far are written completely, and the total is that of their pairs. Each full block
+-- brings the end nearer, since it takes bytes.
+use Rattle.std.proofs.Common.{◌-◌}
 use Rattle.fq_run_core.specs.Devices.{outlet_states}
 use Rattle.fq_run_core.proofs.BlockLemmas.{Wrote}
 use Rattle.fq_run_core.proofs.writing.write_each.Given as goal
 
--- all blocks so far are read and written, and the next is tallied if a tally is asked for
+-- all blocks so far are read and written
 abbrev pub invariant-writing : goal.invariant-writing
 invariant-writing g l =
     let s = g.S.PairReader in let o = g.O.Outlet in
     Wrote l.fn.settings (s.state l.fn.source) (outlet_states o.state l.fn.outlets)
     (s.state l.source) (outlet_states o.state l.outlets) l.total
-    × (is_some l.done.tally ≡ l.fn.settings.tallied)
 
 -- the bytes that may come, less the records that were given
 abbrev pub decreases-writing : goal.decreases-writing

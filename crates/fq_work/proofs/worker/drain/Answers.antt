@@ -5,7 +5,7 @@ use Rattle.fq_work.proofs.worker.drain.Goals as goal
 
 -- at the start no block was taken
 pub loop-init : goal.loop-init
-loop-init g c = ([], with_none c.args.ends.now.rx, refl)
+loop-init g c = ([], with_none c.args.ends.now.rx, refl, refl)
 
 -- one more block was taken
 pub loop-preserved : goal.loop-preserved
@@ -16,6 +16,7 @@ loop-preserved g c =
       with_more c.args.ends.now.rx c.loop.ends.rx c.take_wait.new.self was.0 block
           c.args.ends.now.rx.marked was.1 c.in-Some-take_wait.ensures.1,
       was.2,
+      was.3,
     )
 
 -- all blocks up to the mark were taken

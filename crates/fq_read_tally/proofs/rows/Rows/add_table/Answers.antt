@@ -2,7 +2,7 @@ use Rattle.std.proofs.Common.{◌≡◌, ◌<◌, ◌≤◌, ◌+◌, length, ta
 use Rattle.std.proofs.lemmas.Bool.{cases_lt}
 use Rattle.std.proofs.lemmas.List.{get_or_past}
 use Rattle.fq_read_tally.specs.Rows.{rows_plus}
-use Rattle.fq_read_tally.specs.Unreads.{counts_of}
+use Rattle.fq_read_tally.specs.Tables.{counts_of}
 use Rattle.fq_read_tally.proofs.RowLemmas.{plus_none, grown_long, grown_next, grown_plus}
 use Rattle.fq_read_tally.proofs.rows.Rows.add_table.Goals as goal
 

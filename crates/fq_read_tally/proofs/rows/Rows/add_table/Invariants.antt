@@ -1,6 +1,6 @@
 use Rattle.std.proofs.Common.{◌≡◌, ◌≤◌, ◌<◌, ℕ, length, take, get_or, replicate, vec_capacity}
 use Rattle.fq_read_tally.specs.Rows.{rows_plus}
-use Rattle.fq_read_tally.specs.Unreads.{counts_of}
+use Rattle.fq_read_tally.specs.Tables.{counts_of}
 use Rattle.fq_read_tally.proofs.rows.Rows.add_table.Given as goal
 
 abbrev pub invariant-loop-i : goal.invariant-loop-i

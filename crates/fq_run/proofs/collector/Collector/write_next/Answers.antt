@@ -15,7 +15,7 @@ returns-in-Err g c =
     ∙ c.index_mut-ends.ensures.value) c.take_wait.ensures refl in
     record {
       collects = λ tallied before h. collects_broken tallied _ before _ _ k _ c.in-Some-Done.done
-          c.in-Err.out h c.requires.writing refl t (rw c.texts.ensures at c.in-Err.ensures) refl
+          c.in-Err.out h c.requires.writing refl t c.in-Err.ensures refl
           refl;
       names = takes_names _ _ _ _ t;
       hears = hears_take _ _ _ _ _ k.turn lt t refl;
@@ -31,8 +31,8 @@ returns-in_default g c =
     ∙ c.index_mut-ends.ensures.value) c.take_wait.ensures refl in
     record {
       collects = λ tallied before h. collects_written tallied _ before _ _ k _ c.in-Some-Done.done h
-          c.requires.writing c.requires.writing t (rw c.texts.ensures at c.in_default.ensures)
-          c.add_packed.ensures (cc (c.next_turn-self.ensures.value, c.len-lanes.ensures));
+          c.requires.writing c.requires.writing t c.in_default.ensures
+          c.add.ensures (cc (c.next_turn-self.ensures.value, c.len-lanes.ensures));
       names = takes_names _ _ _ _ t;
       hears = hears_take _ _ _ _ _ k.turn lt t refl;
     }

@@ -11,11 +11,11 @@ loop-ends-preserved g c = record {
   room = c.push_reserved.ensures.capacity ∙ c.loop-ends.invariant.room;
   count = one_counted c.loop-ends.yielded c.in-Some.ends c.push_reserved.ensures.len
       c.loop-ends.invariant.count;
-  seated = zip_pushed (Seated c.args.settings.now.tallied c.args.settings.now.steps
+  seated = zip_pushed (Seated c.args.settings.now.steps
       (g.H.Gate.holds (arc_value c.args.gate.now))) _ _ _ _ _
       c.loop-ends.invariant.seated
-      (let P : Bool → Type 0 = λ holds. Seated c.args.settings.now.tallied
-      c.args.settings.now.steps holds c.in-Some.ends
+      (let P : Bool → Type 0 = λ holds. Seated c.args.settings.now.steps
+      holds c.in-Some.ends
       c.in-Some-start_worker.hand in
       subst P (ap g.H.Gate.holds c.in-Ok.ensures) c.in-Some-start_worker.ensures)
       c.push_reserved.ensures.items;

@@ -10,6 +10,6 @@ abbrev pub invariant-loop-ends : goal.invariant-loop-ends
 invariant-loop-ends g l = record {
   room : vec_capacity l.hands ≡ vec_capacity l.fn.hands;
   count : vec_len l.hands ≡ length l.yielded;
-  seated : AllZip (Seated l.fn.settings.tallied l.fn.settings.steps
-      (g.H.Gate.holds (arc_value l.fn.gate))) l.yielded l.hands.items;
+  seated : AllZip (Seated l.fn.settings.steps (g.H.Gate.holds (arc_value l.fn.gate)))
+      l.yielded l.hands.items;
 }

@@ -8,7 +8,7 @@ use Rattle.fq_run.proofs.lanes.seats.Seats.add.Goals as goal
 pub returns-clause-laid : goal.returns-clause-laid
 returns-clause-laid c =
     let blocks = c.in_ok-to in let replies = c.in_ok-tx in
-    each3_pushed Laid _ _ _ _ _ _ _ _ _ c.requires.laid
+    each3_pushed (Laid c.args.tallied) _ _ _ _ _ _ _ _ _ c.requires.laid
     (record {
       to_is = fresh_is blocks.to blocks.to.name refl blocks.ensures.sender.0
           blocks.ensures.sender.1;
@@ -18,4 +18,5 @@ returns-clause-laid c =
           blocks.ensures.receiver.1;
       tx = fresh_is replies.tx replies.replies.name (sym replies.ensures.one_lane)
           replies.ensures.sender.0 replies.ensures.sender.1;
+      tally = c.in_ok-tally.ensures;
     }) c.push_reserved.ensures.items c.push_reserved-2.ensures.items c.push_reserved-3.ensures.items
