@@ -3,7 +3,7 @@ use Rattle.std.proofs.Common.{◌≡◌, ◌≢◌, ◌⊎◌, ◌∙◌, ℕ, s
 use Rattle.std.proofs.lemmas.List.{take_all}
 use Rattle.std.specs.List.{All}
 use Rattle.fq_files.specs.Holding.{Holding, IsUnchanged}
-use Rattle.fq_files.specs.States.{FilesState, MayRefuse}
+use Rattle.fq_files.specs.States.{FilesState, MayRefuse, MaySay}
 use Rattle.fq_pair.specs.declared.counts.Counts.{Counts}
 use Rattle.fq_pair.specs.declared.side.Side.{Side}
 use Rattle.clap.specs.Kinds.{IsAmong, Kinds}
@@ -14,6 +14,7 @@ use Rattle.fq_run.specs.Outcome.TheVariants.{Spawn, Lane, Gate, Memory, Write, R
 use Rattle.fq_run.specs.Endings.{ends_whole}
 use Rattle.fq_files_run.specs.Faults.{settled, status_when, outcome_status, line_when, memory_words}
 use Rattle.fq_text.specs.Written.{line}
+use Rattle.fq_text.specs.declared.seen.SystemError.{SystemError}
 use Rattle.fq_reasons.specs.Lines.{explained, line_of, ending_line, ending_line_when, line_for, report_line, report_memory_line}
 use Rattle.fq_cli.specs.Requests.{Asking, input_name}
 use Rattle.fq_cli.specs.Words.{AskedFor, asked_pairs, pairs_asked}
@@ -26,7 +27,7 @@ use Rattle.fq_files_run.proofs.LeavingLemmas.{refusal_untrimmed, report_untrimme
 use Rattle.fq_files_run.specs.Refusals.{status_of, IsRefusable}
 use Rattle.fq_app.specs.Answers.{Device, EndsWhole, IsRefusal, IsEnding, IsUnprinted, IsUntold, IsUnreported, IsReportLeft, IsReportUncut, LacksMemory, TookMemoryLine, TookText, NamesRefused, NamesDevice, PairsAnswered, Refuses, Tells, TookLine, memory_line, print_line}
 use Rattle.fq_files_run.specs.declared.refusal.Refusal.{Refusal}
-use Rattle.fq_files_run.specs.Seeing.{IsSaid}
+use Rattle.fq_files_run.specs.Seeing.{IsItsError, IsSaid}
 use Rattle.fq_files_run.specs.declared.seeing.EndingSeen.{EndingSeen}
 use Rattle.fq_files_run.specs.declared.reporting.Reported.{Reported}
 use Rattle.fq_files_run.specs.declared.reporting.Reported.TheVariants as report
@@ -297,62 +298,80 @@ module _ (a : Asking) (old new : FilesState) (outcome : Outcome) (counts : Count
   -- the line of a run that was made
   pub told_line : (seen : EndingSeen)
       (said : IsTrue old.tells → IsSaid a.inputs old.bytes (settled outcome) seen)
+      (its_error : IsItsError a old.may_say (settled outcome) seen)
+      (error : Option SystemError) (report_error : MaySay old.may_say a.report error)
       (out err : Device) (status : ℕ) →
-      Tells a seen outcome reported out err status → TookLine a old new out err status
-  told_line seen said out err status (inl (which, inl ending)) = record {
-    text = ending_line a seen outcome;
-    fits = inl (inr (record {
-      outcome = outcome;
-      seen = seen;
-      status_is = sym ending.0;
-      text_is =
-          refl;
-      no_gate = run.no_gate;
-      said = said;
-      left =
-          run.ended;
-      unreported = is_empty which;
-    }));
-    took = ending.1;
-  }
-  told_line seen said out err status (inl (which, inr (inl unprinted))) = record {
-    text = print_line;
-    fits = inr (inl (record {
-      status_is = unprinted.1.1;
-      failed = unprinted.1.0;
-      text_is = refl;
-      left = λ tells. (
-        outcome,
-        counts,
-        unprinted.0,
-        run.trims tells
-            (done_is_whole outcome unprinted.0),
-      );
-      reported = is_held which (inl unprinted.0);
-    }));
-    took = unprinted.1.2;
-  }
-  told_line seen said out err status (inl (which, inr (inr untold))) =
-      lacks_line a old new out err status untold.1
-      (λ tells. inr (outcome, run.ended tells untold.0)) (λ tells. is_uncut which tells)
-  told_line seen said out err status (inr (inl failed)) =
-      let due = due_as report.Failed failed.0 (λ e. absurd (cc e)) in record {
-        text = report_line a failed.2.0;
-        fits = inr (inr (inr (record {
-          said = failed.2.0;
-          status_is = failed.1;
+      Tells a seen outcome reported error out err status → TookLine a old new out err status
+  told_line seen said its_error error report_error out err status (inl (which, inl ending)) =
+      record {
+        text = ending_line a seen outcome;
+        fits = inl (inr (record {
+          outcome = outcome;
+          seen = seen;
+          status_is = sym ending.0;
+          text_is =
+              refl;
+          no_gate = run.no_gate;
+          said = said;
+          its_error = its_error;
+          left =
+              run.ended;
+          unreported = is_empty which;
+        }));
+        took = ending.1;
+      }
+  told_line seen said its_error error report_error out err status
+      (inl (which, inr (inl unprinted))) = record {
+        text = print_line;
+        fits = inr (inl (record {
+          status_is = unprinted.1.1;
+          failed = unprinted.1.0;
           text_is = refl;
           left = λ tells. (
             outcome,
             counts,
+            unprinted.0,
             run.trims tells
-                (ends_so outcome (outcome_status outcome) refl due),
+                (done_is_whole outcome unprinted.0),
           );
-          begun = held_as report.Failed failed.0;
-        })));
-        took = failed.2.1;
+          reported = is_held which (inl unprinted.0);
+        }));
+        took = unprinted.1.2;
       }
-  told_line seen said out err status (inr (inr lacks)) =
+  told_line seen said its_error error report_error out err status
+      (inl (which, inr (inr untold))) =
+      lacks_line a old new out err status untold.1
+      (λ tells. inr (outcome, run.ended tells untold.0)) (λ tells. is_uncut which tells)
+  told_line seen said its_error error report_error out err status (inr (inl failed)) =
+      let due = due_as report.Failed failed.0 (λ e. absurd (cc e)) in
+      let unreported : (text : List ℕ) → (text ≡ report_line a (Some error))
+      ⊎ (text ≡ report_line a None) → IsUnreported a old new status text =
+      λ text is. record {
+        said = error;
+        its_error = report_error;
+        status_is = failed.1;
+        text_is = is;
+        left = λ tells. (
+          outcome,
+          counts,
+          run.trims tells
+              (ends_so outcome (outcome_status outcome) refl due),
+        );
+        begun = held_as report.Failed failed.0;
+      } in
+      ⊎_elim
+      (λ took. record {
+        text = report_line a (Some error);
+        fits = inr (inr (inr (unreported (report_line a (Some error)) (inl refl))));
+        took = took;
+      })
+      (λ took. record {
+        text = report_line a None;
+        fits = inr (inr (inr (unreported (report_line a None) (inr refl))));
+        took = took;
+      })
+      failed.2
+  told_line seen said its_error error report_error out err status (inr (inr lacks)) =
       let due = due_as (report.OutOfMemory lacks.0.0) lacks.0.1 (λ e. absurd (cc e)) in
       untold_line a old new out err status (report_memory_line a) lacks.1 (inr refl) lacks.2
       (λ tells. inr (outcome, run.ended tells (not_lane outcome due)))
@@ -389,13 +408,15 @@ four_not_lane outcome four lane = let six : outcome_status outcome ≡ 6 = ap ou
 -- what has failed
 pub failed_device : (a : Asking) (old new : FilesState)
     (out err : Device) (status : ℕ) (seen : EndingSeen) (outcome : Outcome)
-    (reported : Reported) → (outcome ≢ Lane → HasFailed a old new outcome) →
+    (reported : Reported) (error : Option SystemError) →
+    IsItsError a old.may_say (settled outcome) seen → MaySay old.may_say a.report error →
+    (outcome ≢ Lane → HasFailed a old new outcome) →
     (IsTrue old.tells → settled outcome ≡ outcome) →
     (reported ≡ report.Failed → ReportFailed a new)
-    → Tells a seen outcome reported out err status → status ≡ 4 →
+    → Tells a seen outcome reported error out err status → status ≡ 4 →
     NamesDevice a old new out err
-failed_device a old new out err status seen outcome reported fails as_it_is
-    report_fails (inl (which, inl ending)) four =
+failed_device a old new out err status seen outcome reported error its_error report_error fails
+    as_it_is report_fails (inl (which, inl ending)) four =
     let is = sym ending.0 ∙ four in
     inr (inl (record {
       outcome = outcome;
@@ -404,19 +425,25 @@ failed_device a old new out err status seen outcome reported fails as_it_is
       told = ending.1;
       has_failed =
           fails (four_not_lane outcome is);
+      its_error = its_error;
       as_it_is = as_it_is;
     }))
-failed_device a old new out err status seen outcome reported fails as_it_is
-    report_fails (inl (which, inr (inl unprinted))) four =
+failed_device a old new out err status seen outcome reported error its_error report_error fails
+    as_it_is report_fails (inl (which, inr (inl unprinted))) four =
     inr (inr (inl (unprinted.1.0, unprinted.1.2)))
-failed_device a old new out err status seen outcome reported fails as_it_is
-    report_fails (inl (which, inr (inr untold))) four =
+failed_device a old new out err status seen outcome reported error its_error report_error fails
+    as_it_is report_fails (inl (which, inr (inr untold))) four =
     absurd (four_not_five status four untold.1.status_is)
-failed_device a old new out err status seen outcome reported fails as_it_is
-    report_fails (inr (inl unwritten)) four =
-    inr (inr (inr (report_fails unwritten.0, unwritten.2)))
-failed_device a old new out err status seen outcome reported fails as_it_is
-    report_fails (inr (inr lacks)) four =
+failed_device a old new out err status seen outcome reported error its_error report_error fails
+    as_it_is report_fails (inr (inl unwritten)) four =
+    inr (inr (inr (record {
+      said = error;
+      told = unwritten.2;
+      has_failed = report_fails unwritten.0;
+      its_error = report_error;
+    })))
+failed_device a old new out err status seen outcome reported error its_error report_error fails
+    as_it_is report_fails (inr (inr lacks)) four =
     absurd (four_not_five status four lacks.1)
 
 -- a report that was written or not due has not failed

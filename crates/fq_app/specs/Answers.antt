@@ -6,7 +6,7 @@ use Rattle.fq_text.specs.Written.{line}
 use Rattle.fq_text.specs.declared.memory.MemoryRefused.{MemoryRefused}
 use Rattle.fq_text.specs.declared.seen.SystemError.{SystemError}
 use Rattle.fq_files.specs.Holding.{Holding, IsUnchanged}
-use Rattle.fq_files.specs.States.{FilesState, MayRefuse}
+use Rattle.fq_files.specs.States.{FilesState, MayRefuse, MaySay}
 use Rattle.fq_pair.specs.declared.counts.Counts.{Counts}
 use Rattle.fq_pair.specs.declared.side.Side.{Side}
 use Rattle.fq_pair.specs.Summaries.{summary_of}
@@ -25,7 +25,7 @@ use Rattle.fq_files_run.specs.Trimming.{IsNoOutput, TrimsFiles}
 use Rattle.fq_files_run.specs.Leaving.{RefusalLeaves, ReportLeft, HoldFirstPairs, AreLeft, TellsInputs}
 use Rattle.fq_files_run.specs.Completing.{HasFailed, ReportFailed}
 use Rattle.fq_files_run.specs.Reporting.{HoldsReport, BeginsReport}
-use Rattle.fq_files_run.specs.Seeing.{IsSaid}
+use Rattle.fq_files_run.specs.Seeing.{IsItsError, IsSaid}
 use Rattle.fq_files_run.specs.declared.seeing.EndingSeen.{EndingSeen}
 use Rattle.fq_files_run.specs.declared.reporting.Reported.{Reported}
 use Rattle.fq_files_run.specs.declared.reporting.Reported.TheVariants as report
@@ -80,9 +80,11 @@ memory_line = line memory_words
 abbrev pub print_line : List ℕ
 print_line = line (codes "cannot print")
 
--- standard error took the line of a report that could not be written
-abbrev pub TookReportLine : Asking → Device → Type 0
-TookReportLine a err = (said : Option (Option SystemError)) × TookText err (report_line a said)
+-- standard error took the line of a report that could not be written, for what its device said; or,
+-- if memory for that was refused, without a reason
+abbrev pub TookReportLine : Asking → Option SystemError → Device → Type 0
+TookReportLine a said err = TookText err (report_line a (Some said))
+    ⊎ TookText err (report_line a None)
 
 -- memory was refused, and standard error took the line for it
 pub record LacksMemory (err : Device) (status : ℕ) : Type 0 where
@@ -116,6 +118,7 @@ pub record IsEnding (a : Asking)
   pub text_is : ending_line a seen outcome ≡ text
   pub no_gate : outcome ≢ Gate
   pub said : IsTrue old.tells → IsSaid a.inputs old.bytes (settled outcome) seen
+  pub its_error : IsItsError a old.may_say (settled outcome) seen
   pub left : IsTrue old.tells → outcome ≢ Lane → HoldFirstPairs a old.bytes new.bytes outcome
   pub unreported : IsTrue old.tells → outcome_status outcome ≢ 0 →
       outcome_status outcome ≢ 3 → (name : List ℕ) → a.report ≡ Some name →
@@ -134,12 +137,13 @@ pub record IsUnprinted (a : Asking)
       a.report ≡ Some name → HoldsReport a old.bytes new.bytes name
 
 -- all pairs were trimmed, up to the end of the inputs or a fault in them, and the report could not
--- be written
+-- be written, for what its device said
 pub record IsUnreported (a : Asking)
     (old new : FilesState) (status : ℕ) (text : List ℕ) : Type 0 where
-  pub said : Option (Option SystemError)
+  pub said : Option SystemError
+  pub its_error : MaySay old.may_say a.report said
   pub status_is : status ≡ 4
-  pub text_is : text ≡ report_line a said
+  pub text_is : (text ≡ report_line a (Some said)) ⊎ (text ≡ report_line a None)
   pub left : IsTrue old.tells →
       (outcome : Outcome) × (counts : Counts) × TrimsFiles a old.bytes new.bytes outcome counts
   pub begun : IsTrue old.tells → (name : List ℕ) →
@@ -181,12 +185,13 @@ Reports text outcome out err status =
     ⊎ ((outcome ≢ Lane) × LacksMemory err status))
 
 -- `Reports` holds if the report was written or none was due; otherwise standard error took the line
--- for a report that was not written or for which memory was refused
-abbrev pub Tells : Asking → EndingSeen → Outcome → Reported → Device → Device → ℕ → Type 0
-Tells a seen outcome reported out err status =
+-- for a report that was not written, for what its device said, or for which memory was refused
+abbrev pub Tells : Asking → EndingSeen → Outcome → Reported → Option SystemError → Device →
+    Device → ℕ → Type 0
+Tells a seen outcome reported said out err status =
     (((reported ≡ report.NotDue) ⊎ (reported ≡ report.Written))
     × Reports (ending_line a seen outcome) outcome out err status)
-    ⊎ (((reported ≡ report.Failed) × (status ≡ 4) × TookReportLine a err)
+    ⊎ (((reported ≡ report.Failed) × (status ≡ 4) × TookReportLine a said err)
     ⊎ (((refused : MemoryRefused) × (reported ≡ report.OutOfMemory refused))
     × (status ≡ 5) × TookText err (report_memory_line a)))
 
@@ -206,14 +211,23 @@ pub record NamesRefused (a : Asking) (old : FilesState) (err : Device) : Type 0 
   pub inputs : IsTrue old.tells → TellsInputs a.inputs why old
   pub refused : IsRefusable a (MayRefuse old) why
 
--- a device of that name has failed, or the input of that side is endless
+-- a device of that name has failed, and may say the error that is told, or the input of that side is
+-- endless
 pub record NamesFailed (a : Asking) (old new : FilesState) (err : Device) : Type 0 where
   pub outcome : Outcome
   pub seen : EndingSeen
   pub status_is : outcome_status outcome ≡ 4
   pub told : TookText err (ending_line a seen outcome)
   pub has_failed : HasFailed a old new outcome
+  pub its_error : IsItsError a old.may_say (settled outcome) seen
   pub as_it_is : IsTrue old.tells → settled outcome ≡ outcome
+
+-- the report's device has failed, and may say the error that is told
+pub record NamesReport (a : Asking) (old new : FilesState) (err : Device) : Type 0 where
+  pub said : Option SystemError
+  pub told : TookReportLine a said err
+  pub has_failed : ReportFailed a new
+  pub its_error : MaySay old.may_say a.report said
 
 -- the line names a refused file, a failed device or an endless input; or standard output or the
 -- report's device has failed
@@ -222,7 +236,7 @@ NamesDevice a old new out err =
     NamesRefused a old err
     ⊎ (NamesFailed a old new err
     ⊎ (((out.failures ≢ 0) × TookText err print_line)
-    ⊎ (ReportFailed a new × TookReportLine a err)))
+    ⊎ NamesReport a old new err))
 
 -- the file of the report holds what it held before, or nothing, or a first part of the defined
 -- report

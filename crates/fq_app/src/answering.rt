@@ -7,11 +7,11 @@ ghost use Rattle.fq_files_run.specs.Trimming.{KeepsUnnamed};
 ghost use Rattle.fq_files_run.specs.Leaving.{AreUntrimmed};
 ghost use Rattle.fq_files_run.specs.Opening.{SparesInputs};
 ghost use Rattle.fq_cli.specs.Words.{AskedFor, words_fault};
-ghost use Rattle.fq_app.specs.Answers.{device_of, TookText, TookPart, TookLines, LacksMemory, TookMemoryLine, LacksPrint, IsUnshown, Refuses, Tells, NamesDevice, PairsAnswered, AreRefused, IsCall, AreCalls, print_line};
+ghost use Rattle.fq_app.specs.Answers.{device_of, TookText, TookPart, TookLines, TookReportLine, LacksMemory, TookMemoryLine, LacksPrint, IsUnshown, Refuses, Tells, NamesDevice, PairsAnswered, AreRefused, IsCall, AreCalls, print_line};
 ghost use Rattle.fq_app.specs.Example.{example_text};
 ghost use Rattle.fq_app.specs.FilesInStep.{FilesAreInStep, FilesAreInStepUpTo};
 ghost use Rattle.fq_files_run.specs.Faults.{outcome_status};
-ghost use Rattle.fq_reasons.specs.Lines.{ending_line, report_line};
+ghost use Rattle.fq_reasons.specs.Lines.{ending_line};
 ghost use Rattle.fq_pair.specs.Summaries.{summary_of};
 ghost use Rattle.clap.specs.Words.{kind_of};
 ghost use Rattle.clap.specs.declared.error.kind.ErrorKind.TheVariants.{DisplayHelp, DisplayVersion, OutOfMemory};
@@ -206,13 +206,11 @@ fn tell<O: Outlet, E: Outlet>(
     ensures told { (result ≡ 0) ⊎ (result ≡ 3) → TookText (device_of E.state err.old err.new)
         (ending_line (asking_of request.now) completed.now.seen completed.now.account.outcome) }
     ensures line { result ≢ 0 → Tells (asking_of request.now) completed.now.seen
-        completed.now.account.outcome completed.now.reported
+        completed.now.account.outcome completed.now.reported completed.now.report_error
         (device_of O.state out.old out.new) (device_of E.state err.old err.new) result }
     ensures unreported { completed.now.reported ≡ Reported.Failed
-        → TookText (device_of E.state err.old err.new)
-        (report_line (asking_of request.now) (Some completed.now.report_error))
-        ⊎ TookText (device_of E.state err.old err.new)
-        (report_line (asking_of request.now) None) }
+        → TookReportLine (asking_of request.now)
+        completed.now.report_error (device_of E.state err.old err.new) }
     ensures memory { result ≡ 5 → (out.new ≡ out.old)
         × TookMemoryLine (device_of E.state err.old err.new) }
     ensures quiet { result ≢ 0 → result ≢ 3 → (O.state out.new).failures ≡ 0 → out.new ≡ out.old }

@@ -1,13 +1,13 @@
 //! What the program reports at its end.
 
-ghost use Rattle.std.specs.Prelude.{◌≡◌, ◌≢◌, ◌⊎◌, true, false, Some, None, [], IfOk, OnErr};
+ghost use Rattle.std.specs.Prelude.{◌≡◌, ◌≢◌, ◌⊎◌, true, false, [], IfOk, OnErr};
 ghost use Rattle.std.specs.Option.{option_map};
 ghost use Rattle.std.specs.String.{string_bytes};
 ghost use Rattle.fq_pair.specs.Summaries.{summary_of};
-ghost use Rattle.fq_app.specs.Answers.{device_of, TookText, TookPart, Reports, LacksMemory, TookMemoryLine, print_line};
+ghost use Rattle.fq_app.specs.Answers.{device_of, TookText, TookPart, TookReportLine, Reports, LacksMemory, TookMemoryLine, print_line};
 ghost use Rattle.fq_files_run.specs.Faults.{outcome_status};
 ghost use Rattle.fq_cli.specs.Requests.{asking_of};
-ghost use Rattle.fq_reasons.specs.Lines.{line_for, report_line, report_memory_line};
+ghost use Rattle.fq_reasons.specs.Lines.{line_for, report_memory_line};
 
 use fq_cli::Request;
 use fq_files_run::{Account, EndingSeen, LANE_LINE, MEMORY_LINE, fault_line, status_of};
@@ -184,10 +184,8 @@ pub(crate) fn cannot_report<E: Outlet>(
 ) -> u8
     requires { (E.state err.old).failures ≡ 0 }
     ensures status { result ≡ 4 }
-    ensures told { TookText (device_of E.state err.old err.new)
-        (report_line (asking_of request.now) (Some error))
-        ⊎ TookText (device_of E.state err.old err.new)
-        (report_line (asking_of request.now) None) }
+    ensures told { TookReportLine (asking_of request.now)
+        error (device_of E.state err.old err.new) }
 {
     match report_line(alloc, request, error) {
         Ok(text) => fail_with(err, text.as_str()),

@@ -12,7 +12,7 @@ ghost use Rattle.fq_files_run.specs.Trimming.{KeepsUnnamed, opened_of, left_of, 
 ghost use Rattle.fq_files_run.specs.Opening.{AreReady, AreOpened, IsRefused, SparesInputs};
 ghost use Rattle.fq_files_run.specs.Completing.{IsCompleted, IsWitnessed};
 ghost use Rattle.fq_files.specs.Holding.{IsUnchanged};
-ghost use Rattle.fq_files.specs.States.{FilesState, IsSound, OnlyStores};
+ghost use Rattle.fq_files.specs.States.{FilesState, IsSound, MaySay, OnlyStores};
 
 use fq_cli::Request;
 use fq_files::Files;
@@ -59,6 +59,8 @@ pub fn trim_files<R: Threads + Wait + Copy + Send + 'static, T: Files>(
     ensures refused { IfErr result (λ why.
         IsRefused (asking_of request.now) why (T.state files.old) (T.state files.new)) }
     ensures unfailed { OnErr result (IsSound (T.state files.old) (T.state files.new)) }
+    ensures report_says { IfOk result (λ completed. MaySay (T.state files.old).may_say
+        (asking_of request.now).report completed.report_error) }
 
     ensures rest { IsTrue (T.state files.old).tells
         → KeepsUnnamed (asking_of request.now)
@@ -114,6 +116,8 @@ fn complete<R: Threads + Wait + Copy + Send + 'static, T: Files>(
         → wrong_with (asking_of request.now) ≡ None
         → IsCompleted (asking_of request.now) start (T.state files.new)
         result.account.outcome result.account.counts result.reported result.seen }
+    ensures report_says { MaySay (T.state files.old).may_say
+        (asking_of request.now).report result.report_error }
     ensures kept { OnlyStores (T.state files.old) (T.state files.new) }
     ensures witnessed { IsWitnessed result.account }
     ensures no_gate { result.account.outcome ≢ Outcome.Gate }

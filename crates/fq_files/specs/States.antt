@@ -1,19 +1,33 @@
 -- Files as contracts see them, and what a call leaves as it was.
-use Rattle.std.specs.Prelude.{◌≡◌, ◌⊎◌, ℕ, Bool, IsTrue, List}
+use Rattle.std.specs.Prelude.{◌≡◌, ◌⊎◌, ℕ, Bool, false, IsTrue, Option, Some, None, List}
 use Rattle.fq_files.specs.Holding.{Holding, KeepsNames}
+use Rattle.fq_text.specs.declared.seen.SystemError.{SystemError}
+use Rattle.fq_files.specs.declared.files.Cause.{Cause}
+use Rattle.fq_files.specs.declared.files.Cause.TheVariants.{System, Input, Output}
 
 -- some names
 abbrev pub Names : Type 0
 Names = List ℕ → Bool
+
+-- some causes for each name
+abbrev pub Causes : Type 0
+Causes = List ℕ → Cause → Bool
+
+-- some errors of the system for each name
+abbrev pub Errors : Type 0
+Errors = List ℕ → SystemError → Bool
 
 pub record FilesState : Type 0 where
   -- Whether the bytes of these files are known to the proof. This never changes.
   pub tells : Bool
   -- The bytes of each name that is held.
   pub bytes : Holding
-  -- Whether this name may be refused as an output for another reason than memory, or may lead to
-  -- the file of another name, as a link does. This never changes.
-  pub refuses : Names
+  -- For which causes this name may be refused as an output, if memory isn't. For the cause `Input`
+  -- it may lead to the file of another name, as a link does. This never changes.
+  pub refuses : Causes
+  -- Which errors of the system a device of this name may say once it has failed, or this name if it
+  -- is refused as an input. This never changes.
+  pub may_say : Errors
   -- Whether this name leads to a file that was opened as an input. Each name that was opened does,
   -- and never stops doing so; another name does only if it may lead to the file of another name.
   pub is_open : Names
@@ -24,9 +38,27 @@ pub record FilesState : Type 0 where
   -- count for other names too; without such a target nothing counts.
   pub is_unflushed : Names
 
--- this name may be refused, or it leads to an input
-abbrev pub MayRefuse : FilesState → List ℕ → Type 0
-MayRefuse files name = IsTrue (files.refuses name) ⊎ IsTrue (files.is_open name)
+-- this name may be refused as an output for this cause, or it leads to an input, and that is the
+-- cause
+abbrev pub MayRefuse : FilesState → List ℕ → Cause → Type 0
+MayRefuse files name cause = IsTrue (files.refuses name cause)
+    ⊎ ((cause ≡ Input) × IsTrue (files.is_open name))
+
+-- This name may be refused as an input for this cause: there is no such file, and the system may say
+-- so by this error; or it is an input already, of which this holds. If the bytes of the files are
+-- known, it is no output yet.
+pub record MayRefuseInput (files : FilesState) (IsInput : Type 0)
+    (name : List ℕ) (cause : Cause) : Type 0 where
+  pub missing : (error : SystemError) → cause ≡ System error →
+      IsTrue (files.may_say name error) × (IsTrue files.tells → files.bytes name ≡ None)
+  pub twice : cause ≡ Input → IsInput
+  pub no_output : cause ≡ Output → files.tells ≡ false
+
+-- what is told, if anything is, is an error that a device of this name may say; without a name
+-- nothing is told
+abbrev pub MaySay : Errors → Option (List ℕ) → Option SystemError → Type 0
+MaySay may_say named told = (error : SystemError) → told ≡ Some error →
+    (name : List ℕ) × (named ≡ Some name) × IsTrue (may_say name error)
 
 -- only which names lead to an input has changed
 abbrev pub OnlyOpens : FilesState → FilesState → Type 0

@@ -1,9 +1,9 @@
 //! Files by name.
 
-ghost use Rattle.std.specs.Prelude.{◌≡◌, ◌≢◌, ◌<◌, ◌⊎◌, ℕ, List, false, Some, None, Err, [], IsTrue, IsSome, IfOk, OnOk, OnErr};
+ghost use Rattle.std.specs.Prelude.{◌≡◌, ◌≢◌, ◌<◌, ◌⊎◌, ℕ, List, false, Some, Err, [], IsTrue, IsSome, IfOk, OnOk, OnErr};
 ghost use Rattle.fq_text.specs.Looks.{look_of};
 ghost use Rattle.fq_files.specs.Holding.{KeepsOthers};
-ghost use Rattle.fq_files.specs.States.{FilesState, KeepsFailed, MayRefuse, OnlyOpens, OnlyFails, OnlyWrites, OnlyStores, StillHeld};
+ghost use Rattle.fq_files.specs.States.{FilesState, KeepsFailed, MayRefuse, MayRefuseInput, MaySay, OnlyOpens, OnlyFails, OnlyWrites, OnlyStores, StillHeld};
 
 use fq_text::{Feed, OutOfMemory, Outlet, Seen, SystemError};
 use thiserror::Error;
@@ -49,9 +49,9 @@ impl From<OutOfMemory> for FileFault {
 /// only if the bytes are known. No call changes another name's bytes, or removes a name.
 ///
 /// The contracts also say which names may be refused, which lead to an input, for which names a
-/// device has failed, and for which a target was not flushed. A device is a feed or an outlet; its
-/// failures are known once it is handed back, by [`source_done`](Files::source_done) or
-/// [`done`](Files::done).
+/// device has failed, which errors it may then say, and for which a target was not flushed. A device
+/// is a feed or an outlet; its failures are known once it is handed back, by
+/// [`source_done`](Files::source_done) or [`done`](Files::done).
 pub trait Files {
     /// The feed that a file is read from.
     type In: Feed + Send + Drop + 'static;
@@ -70,17 +70,17 @@ pub trait Files {
             → IsTrue (Self.In.state feed).tells) }
         ensures given { IfOk result (λ feed. IsTrue (state self.old).tells
             → (state self.old).bytes name.now ≡ Some (Self.In.state feed).to_come) }
-        ensures refused { IsTrue (state self.old).tells
-            → (cause : Cause) → result ≡ Err (FileFault.Refused cause)
-            → ((state self.old).bytes name.now ≡ None)
-            ⊎ IsTrue ((state self.old).is_open name.now) }
+        ensures refused { (cause : Cause) → result ≡ Err (FileFault.Refused cause)
+            → MayRefuseInput (state self.old)
+            (IsTrue ((state self.old).is_open name.now)) name.now cause }
         ensures kept { OnlyOpens (state self.old) (state self.new) }
         ensures opened { OnOk result (IsTrue ((state self.new).is_open name.now)) }
         ensures unopened { OnErr result (state self.new ≡ state self.old) }
         ensures remains { (other : List ℕ) → IsTrue ((state self.old).is_open other)
             → IsTrue ((state self.new).is_open other) }
         ensures linked { (other : List ℕ) → other ≢ name.now
-            → IsTrue ((state self.new).is_open other) → MayRefuse (state self.old) other };
+            → IsTrue ((state self.new).is_open other)
+            → MayRefuse (state self.old) other Cause.Input };
 
     /// Hands a feed back: if it failed, a device of this name has failed. Returns why, and what the
     /// file looks like, as far as that is known. No file changes. The name must be held, as it is
@@ -89,6 +89,7 @@ pub trait Files {
         requires { IsTrue (state self.old).tells → IsSome ((state self.old).bytes name.now) }
         ensures kept { OnlyFails (state self.old) (state self.new) }
         ensures why { (Self.In.state feed).failures ≡ 0 → result.error ≡ None }
+        ensures says { MaySay (state self.old).may_say (Some name.now) result.error }
         ensures look { IsTrue (state self.old).tells → (bytes : List ℕ)
             → (state self.old).bytes name.now ≡ Some bytes → result.look ≡ look_of bytes }
         ensures failed { 0 < (Self.In.state feed).failures
@@ -116,7 +117,7 @@ pub trait Files {
 
     /// Opens an outlet to the file, which is created, or emptied if it exists. The outlet has taken
     /// nothing, and has not failed. If the file is refused, it holds what it held before, or
-    /// nothing. Only a name that may be refused, or leads to an input, is refused.
+    /// nothing. Only a name that may be refused for that cause, or leads to an input, is refused.
     fn target(&mut self, name: &str) -> Result<Self::Target, FileFault>
         ensures fresh { IfOk result (λ target. (Self.Target.state target).failures ≡ 0) }
         ensures telling { IfOk result (λ target. IsTrue (state self.old).tells
@@ -133,7 +134,7 @@ pub trait Files {
             → KeepsOthers (state self.old).bytes (state self.new).bytes name.now }
         ensures kept { OnlyWrites (state self.old) (state self.new) }
         ensures rightly { (cause : Cause) → result ≡ Err (FileFault.Refused cause)
-            → MayRefuse (state self.old) name.now };
+            → MayRefuse (state self.old) name.now cause };
 
     /// Hands an outlet back: the file holds what the outlet has taken, and if the outlet failed, a
     /// device of this name has failed. Returns why, as far as that is known. The name must be held,
@@ -147,6 +148,7 @@ pub trait Files {
             → KeepsOthers (state self.old).bytes (state self.new).bytes name.now }
         ensures kept { OnlyStores (state self.old) (state self.new) }
         ensures why { (Self.Target.state target).failures ≡ 0 → result ≡ None }
+        ensures says { MaySay (state self.old).may_say (Some name.now) result }
         ensures failed { 0 < (Self.Target.state target).failures
             → IsTrue ((state self.new).has_failed name.now) }
         ensures sound { (Self.Target.state target).failures ≡ 0

@@ -92,9 +92,9 @@ impl MemoryFiles {
 }
 
 impl Files for MemoryFiles {
-    ghost use Rattle.std.specs.Prelude.{◌≡◌, ◌≢◌, ◌⊎◌, ℕ, Some, None, Err, List, IsTrue, IfOk, OnOk, OnErr};
+    ghost use Rattle.std.specs.Prelude.{◌≡◌, ◌≢◌, ℕ, Some, Err, List, IsTrue, IfOk, OnOk, OnErr};
     ghost use Rattle.fq_files.specs.Memory.{bytes_in, state_of};
-    ghost use Rattle.fq_files.specs.States.{MayRefuse, OnlyOpens};
+    ghost use Rattle.fq_files.specs.States.{MayRefuse, MayRefuseInput, OnlyOpens};
 
     type In = ScriptFeed;
 
@@ -110,15 +110,16 @@ impl Files for MemoryFiles {
 
         // As for all files whose bytes are known to the proof.
         ensures refused { (cause : Cause) → result ≡ Err (FileFault.Refused cause)
-            → (bytes_in self.old name.now ≡ None)
-            ⊎ IsTrue ((state_of self.old).is_open name.now) }
+            → MayRefuseInput (state_of self.old)
+            (IsTrue ((state_of self.old).is_open name.now)) name.now cause }
         ensures kept { OnlyOpens (state_of self.old) (state_of self.new) }
         ensures opened { OnOk result (IsTrue ((state_of self.new).is_open name.now)) }
         ensures unopened { OnErr result (state_of self.new ≡ state_of self.old) }
         ensures remains { (other : List ℕ) → IsTrue ((state_of self.old).is_open other)
             → IsTrue ((state_of self.new).is_open other) }
         ensures linked { (other : List ℕ) → other ≢ name.now
-            → IsTrue ((state_of self.new).is_open other) → MayRefuse (state_of self.old) other }
+            → IsTrue ((state_of self.new).is_open other)
+            → MayRefuse (state_of self.old) other Cause.Input }
     {
         if self.leads_to_input(name) {
             return Err(FileFault::Refused(Cause::Input));

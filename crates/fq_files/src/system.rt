@@ -38,7 +38,8 @@ impl Identity {
 /// A file that was opened as an input is refused as an output, under any name, and is left
 /// unchanged. A regular file that is already an input is refused as another input, and one that is
 /// already an output is refused as another output. Every name may be refused, and every name may
-/// lead to an input. A failure counts for every name, and so does a target that was not flushed.
+/// lead to an input. A failure counts for every name, and so does a target that was not flushed. A
+/// device may say each error.
 #[derive(Drop)]
 pub struct SystemFiles<'a, R: rt::Files<File = File>> {
     runtime: &'a R,
@@ -104,7 +105,8 @@ impl<'a, R: rt::Files<File = File>> Files for SystemFiles<'a, R> {
     ghost state = { λ files. record {
       tells = false;
       bytes = λ _. None;
-      refuses = λ _. true;
+      refuses = λ _ _. true;
+      may_say = λ _ _. true;
       is_open = λ _. true;
       has_failed = λ _. files.has_failed;
       is_unflushed = λ _. files.has_unflushed;

@@ -6,11 +6,12 @@ use Rattle.std.proofs.lemmas.Slice.Eq.{bytes_eq-Decides}
 use Rattle.std.proofs.Math.Bool.{or-true}
 use Rattle.fq_text.specs.Scores.{encoding_of}
 use Rattle.fq_files.specs.Holding.{Holding, KeepsNames}
-use Rattle.fq_files.specs.States.{FilesState, Names, MayRefuse, OnlyOpens, OnlyWrites}
+use Rattle.fq_files.specs.States.{Causes, FilesState, Names, MayRefuse, MayRefuseInput, OnlyOpens, OnlyWrites}
 use Rattle.fq_files.specs.declared.files.Cause.{Cause}
+use Rattle.fq_files.specs.declared.files.Cause.TheVariants as cause
 use Rattle.fq_files.specs.declared.files.FileFault.{FileFault}
 use Rattle.fq_files.specs.declared.files.FileFault.TheVariants.{Refused}
-use Rattle.fq_files.proofs.StateLemmas.{same_as}
+use Rattle.fq_files.proofs.StateLemmas.{same_as, told_as}
 use Rattle.fq_pair.specs.declared.out.Out.{Out}
 use Rattle.fq_pair.specs.declared.out.Out.TheVariants.{ForwardPaired, ForwardUnpaired, ReversePaired, ReverseUnpaired, Log}
 use Rattle.fq_pair.specs.declared.side.Side.{Side}
@@ -25,7 +26,7 @@ use Rattle.fq_run_core.specs.declared.settings.BadSetting.{BadSetting}
 use Rattle.fq_cli.specs.Requests.{Asking, InputNames, input_name, is_input, output_name, same_log, same_name, report_is_input}
 use Rattle.fq_files_run.specs.declared.refusal.Refusal.{Refusal}
 use Rattle.fq_files_run.specs.declared.refusal.Refusal.TheVariants as why
-use Rattle.fq_files_run.specs.Refusals.{status_of, IsMemory, IsRefusable, IsSource, IsTarget, IsReport}
+use Rattle.fq_files_run.specs.Refusals.{status_of, IsMemory, IsRefusable, IsTarget, IsReport}
 use Rattle.fq_files_run.specs.Judging.{choices_of, judged, with_steps, with_encoding, settings_of, wrong_among, wrong_with}
 use Rattle.fq_files_run.specs.Trimming.{Opened, IsNoOutput, KeepsUnnamed, AreFed}
 use Rattle.fq_files_run.specs.Leaving.{AreThere, TellsInputs, RefusalLeaves, ReportLeft, is_late}
@@ -85,10 +86,11 @@ pub report_late : (refusal : Refusal) → IsReport refusal ⊎ IsMemory refusal 
 report_late refusal is = let P : Refusal → Type 0 = λ r. IsTrue (is_late r) in
     ⊎_elim (λ report. subst P (sym report.1) refl) (λ memory. subst P (sym memory.1) refl) is
 
--- an output is refused under its name, if it is not memory for it that was refused
+-- an output is refused under its name, for the cause that the files gave, if it is not memory for it
+-- that was refused
 pub output_refused : (a : Asking) (out : Out) (name : List ℕ) → output_name a out ≡ Some name →
-    (P : List ℕ → Type 0) (fault : FileFault) (refusal : Refusal) →
-    ((cause : Cause) → fault ≡ Refused cause → P name) →
+    (P : List ℕ → Cause → Type 0) (fault : FileFault) (refusal : Refusal) →
+    ((cause : Cause) → fault ≡ Refused cause → P name cause) →
     ((cause : Cause) × (fault ≡ Refused cause) × (refusal ≡ why.Target out cause))
     ⊎ IsMemory refusal → IsRefusable a P refusal
 output_refused a out name named P fault refusal so is =
@@ -96,7 +98,18 @@ output_refused a out name named P fault refusal so is =
     ⊎_elim (λ target. subst R (sym target.2) (name, named, so target.0 target.1))
     (λ memory. subst R (sym memory.1) tt) is
 
--- and its refusal comes after the inputs
+-- so is the report
+pub report_is_refused : (a : Asking) (name : List ℕ) → a.report ≡ Some name →
+    (P : List ℕ → Cause → Type 0) (fault : FileFault) (refusal : Refusal) →
+    ((cause : Cause) → fault ≡ Refused cause → P name cause) →
+    ((cause : Cause) × (fault ≡ Refused cause) × (refusal ≡ why.Report cause))
+    ⊎ IsMemory refusal → IsRefusable a P refusal
+report_is_refused a name named P fault refusal so is =
+    let R : Refusal → Type 0 = λ r. IsRefusable a P r in
+    ⊎_elim (λ report. subst R (sym report.2) (name, named, so report.0 report.1))
+    (λ memory. subst R (sym memory.1) tt) is
+
+-- the refusal of an output comes after the inputs
 pub output_late : (out : Out) (refusal : Refusal) → IsTarget out refusal ⊎ IsMemory refusal →
     IsTrue (is_late refusal)
 output_late out refusal is = let P : Refusal → Type 0 = λ r. IsTrue (is_late r) in
@@ -232,12 +245,14 @@ pub wrong_refused : (a : Asking) (refusal : Refusal) (files : FilesState) →
 wrong_refused a refusal files wrong = first_refused a refusal files
     (wrong_first a (settings_of a) (same_name a) (report_is_input a) refusal refl wrong)
 
--- what holds of the name that was refused
-pub refusable_so : (a : Asking) (P Q : List ℕ → Type 0) (refusal : Refusal) →
-    ((name : List ℕ) → P name → Q name) → IsRefusable a P refusal → IsRefusable a Q refusal
-refusable_so a P Q (why.Target out cause) so refused =
-    (refused.0, refused.1, so refused.0 refused.2)
-refusable_so a P Q (why.Report cause) so refused = (refused.0, refused.1, so refused.0 refused.2)
+-- what holds of the name that was refused, and of the cause
+pub refusable_so : (a : Asking) (P Q : List ℕ → Cause → Type 0) (refusal : Refusal) →
+    ((name : List ℕ) (given : Cause) → P name given → Q name given) → IsRefusable a P refusal →
+    IsRefusable a Q refusal
+refusable_so a P Q (why.Target out given) so refused =
+    (refused.0, refused.1, so refused.0 given refused.2)
+refusable_so a P Q (why.Report given) so refused =
+    (refused.0, refused.1, so refused.0 given refused.2)
 refusable_so a P Q (why.Memory lacked) so refused = refused
 refusable_so a P Q why.Encoding so refused = refused
 refusable_so a P Q (why.Step fault) so refused = refused
@@ -247,16 +262,20 @@ refusable_so a P Q (why.Source side cause) so refused = refused
 refusable_so a P Q why.SameReport so refused = refused
 
 -- a name that may be refused after the inputs are opened
-pub refusable_since : (a : Asking) (old : FilesState) (refuses opened : Names)
+pub refusable_since : (a : Asking) (old : FilesState) (refuses : Causes) (opened : Names)
     (refusal : Refusal) → refuses ≡ old.refuses →
-    ((name : List ℕ) → IsTrue (opened name) → MayLead a.inputs old name) →
-    IsRefusable a (λ name. IsTrue (refuses name) ⊎ IsTrue (opened name)) refusal →
-    IsRefusable a (MayLead a.inputs old) refusal
+    ((name : List ℕ) → IsTrue (opened name) → MayLead a.inputs old name cause.Input) →
+    IsRefusable a
+    (λ name given. IsTrue (refuses name given) ⊎ ((given ≡ cause.Input) × IsTrue (opened name)))
+    refusal → IsRefusable a (MayLead a.inputs old) refusal
 refusable_since a old refuses opened refusal same led refused =
-    refusable_so a (λ name. IsTrue (refuses name) ⊎ IsTrue (opened name)) (MayLead a.inputs old)
-    refusal
-    (λ name. ⊎_elim (λ may. inr (inl (subst (λ (r : Names). IsTrue (r name)) same may)))
-    (λ leads. led name leads)) refused
+    refusable_so a
+    (λ name given. IsTrue (refuses name given) ⊎ ((given ≡ cause.Input) × IsTrue (opened name)))
+    (MayLead a.inputs old) refusal
+    (λ name given. ⊎_elim
+    (λ may. inr (inl (subst (λ (r : Causes). IsTrue (r name given)) same may)))
+    (λ leads. subst (λ (x : Cause). MayLead a.inputs old name x) (sym leads.0)
+    (led name leads.1))) refused
 
 clash : (b : Bool) → IsTrue b → b ≡ false → ⊥
 clash true is none = absurd (cc none)
@@ -321,19 +340,20 @@ named_input inputs Reverse =
     ∙ or-true (bytes_eq inputs.reverse inputs.forward)
 
 -- a name that leads to an input once the inputs are opened is no input's, if the request is right
-no_input : (a : Asking) (P : List ℕ → Type 0) (refusal : Refusal) → same_name a ≡ None →
-    report_is_input a ≡ false → IsRefusable a (λ name. IsTrue (is_input a.inputs name) ⊎ P name)
+no_input : (a : Asking) (P : List ℕ → Cause → Type 0) (refusal : Refusal) → same_name a ≡ None →
+    report_is_input a ≡ false → IsRefusable a
+    (λ name given. ((given ≡ cause.Input) × IsTrue (is_input a.inputs name)) ⊎ P name given)
     refusal → IsRefusable a P refusal
-no_input a P (why.Target out cause) outputs report refused = (
+no_input a P (why.Target out given) outputs report refused = (
   refused.0,
   refused.1,
-  ⊎_elim (λ is. absurd (differs_from a out refused.0 outputs refused.1 is))
+  ⊎_elim (λ is. absurd (differs_from a out refused.0 outputs refused.1 is.1))
       (λ other. other) refused.2,
 )
-no_input a P (why.Report cause) outputs report refused = (
+no_input a P (why.Report given) outputs report refused = (
   refused.0,
   refused.1,
-  ⊎_elim (λ is. absurd (report_differs a refused.0 report refused.1 is))
+  ⊎_elim (λ is. absurd (report_differs a refused.0 report refused.1 is.1))
       (λ other. other) refused.2,
 )
 no_input a P (why.Memory lacked) outputs report refused = refused
@@ -386,21 +406,32 @@ leads_nowhere a before after same outputs report name made leads =
 
 -- it was refused after the forward one was opened, which changed no file
 pub tells_reverse : (inputs : InputNames) (refusal : Refusal) (old mid : FilesState) →
-    IsMemory refusal ⊎ (IsSource Reverse refusal
-    × ((mid.bytes inputs.reverse ≡ None) ⊎ IsTrue (mid.is_open inputs.reverse))) →
+    IsMemory refusal ⊎ ((given : Cause) × (refusal ≡ why.Source Reverse given)
+    × MayRefuseInput mid (IsTrue (mid.is_open inputs.reverse)) inputs.reverse given) →
     IsSome (old.bytes inputs.forward) → OnlyOpens old mid →
-    ((name : List ℕ) → name ≢ inputs.forward → IsTrue (mid.is_open name) → MayRefuse old name) →
-    TellsInputs inputs refusal old
+    ((name : List ℕ) → name ≢ inputs.forward → IsTrue (mid.is_open name) →
+    MayRefuse old name cause.Input) → TellsInputs inputs refusal old
 tells_reverse inputs refusal old mid (inl memory) there kept linked =
     let P : Refusal → Type 0 = λ r. TellsInputs inputs r old in
     subst P (sym memory.1) tt
 tells_reverse inputs refusal old mid (inr source) there kept linked =
     let P : Refusal → Type 0 = λ r. TellsInputs inputs r old in
-    subst P (sym source.0.1) (
+    let refused = source.2 in
+    subst P (sym source.1) (
       there,
-      ⊎_elim (λ none. inl (sym (same_as _ _ kept inputs.reverse) ∙ none))
-          (λ leads. inr (⊎_elim
-          (λ one. let twice : inputs.reverse ≡ inputs.forward = cc in inl twice)
-          (λ other. inr (linked inputs.reverse (λ twice. other (ap Some (sym twice))) leads))
-          (this_or_other (Some inputs.forward) inputs.reverse))) source.1,
+      record {
+        missing = λ error is. (
+          subst (λ (files : FilesState). IsTrue (files.may_say inputs.reverse error)) kept
+              (refused.missing error is).0,
+          λ told. sym (same_as _ _ kept inputs.reverse)
+              ∙ (refused.missing error is).1 (told_as _ _ kept told),
+        );
+        twice = λ is. ⊎_elim
+            (λ one. let twice : inputs.reverse ≡ inputs.forward = cc in inl twice)
+            (λ other. inr (linked inputs.reverse (λ twice. other (ap Some (sym twice)))
+            (refused.twice is)))
+            (this_or_other (Some inputs.forward) inputs.reverse);
+        no_output = λ is. sym (ap (λ (files : FilesState). files.tells) kept)
+            ∙ refused.no_output is;
+      },
     )

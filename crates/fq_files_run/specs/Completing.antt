@@ -16,7 +16,7 @@ use Rattle.fq_files_run.specs.Judging.{settings_of}
 use Rattle.fq_files_run.specs.Trimming.{IsEmptyOutlet, KeepsUnnamed, TrimsFiles}
 use Rattle.fq_files_run.specs.Leaving.{HoldFirstPairs}
 use Rattle.fq_files_run.specs.Reporting.{IsDue, IsNotDue, KeepsOutputs, ReportHeld, TookReport}
-use Rattle.fq_files_run.specs.Seeing.{IsSaid}
+use Rattle.fq_files_run.specs.Seeing.{IsItsError, IsSaid}
 use Rattle.fq_files_run.specs.declared.account.Account.{Account}
 use Rattle.fq_files_run.specs.declared.seeing.EndingSeen.{EndingSeen}
 use Rattle.fq_files_run.specs.declared.reporting.Reported.{Reported}
@@ -101,6 +101,7 @@ pub record IsCompleted (a : Asking) (old new : FilesState)
   pub failed : outcome ≢ Lane → HasFailed a old new outcome
   pub as_it_is : IsTrue old.tells → settled outcome ≡ outcome
   pub said : IsTrue old.tells → IsSaid a.inputs old.bytes (settled outcome) seen
+  pub its_error : IsItsError a old.may_say (settled outcome) seen
   pub report_failed : reported ≡ became.Failed → ReportFailed a new
   pub sound : IsTrue (ends_whole outcome) → reported ≢ became.Failed →
       new.has_failed ≡ old.has_failed

@@ -1,7 +1,8 @@
 -- What the files of the outputs hold if the program does not end whole.
-use Rattle.std.specs.Prelude.{◌≡◌, ◌<◌, ◌≤◌, ◌⊎◌, ℕ, Bool, true, false, Option, Some, None, IsSome, IsTrue, Ok, List, [], ◌++◌}
+use Rattle.std.specs.Prelude.{◌≡◌, ◌<◌, ◌≤◌, ◌⊎◌, ℕ, Bool, true, false, Option, Some, IsSome, IsTrue, Ok, List, [], ◌++◌}
 use Rattle.fq_files.specs.Holding.{Holding, IsUnchanged}
-use Rattle.fq_files.specs.States.{FilesState, MayRefuse}
+use Rattle.fq_files.specs.States.{FilesState, MayRefuse, MayRefuseInput}
+use Rattle.fq_files.specs.declared.files.Cause.TheVariants as cause
 use Rattle.fq_pair.specs.declared.out.Out.{Out}
 use Rattle.fq_pair.specs.declared.side.Side.TheVariants as side
 use Rattle.fq_pair.specs.Mates.{Mates}
@@ -91,14 +92,15 @@ abbrev pub AreThere : InputNames → Holding → Type 0
 AreThere inputs old = IsSome (old inputs.forward) × IsSome (old inputs.reverse)
 
 -- The input that is named does not exist, or is an input already: before the call, or, after the
--- forward one was opened, as the same file. An output or the report is refused only if both inputs
--- exist. Given are the files before the call.
+-- forward one was opened, as the same file. The cause is which of these it is. An output or the
+-- report is refused only if both inputs exist. Given are the files before the call.
 abbrev pub TellsInputs : InputNames → Refusal → FilesState → Type 0
-TellsInputs inputs (why.Source side.Forward cause) old =
-    (old.bytes inputs.forward ≡ None) ⊎ IsTrue (old.is_open inputs.forward)
-TellsInputs inputs (why.Source side.Reverse cause) old =
-    IsSome (old.bytes inputs.forward) × ((old.bytes inputs.reverse ≡ None)
-    ⊎ ((inputs.reverse ≡ inputs.forward) ⊎ MayRefuse old inputs.reverse))
+TellsInputs inputs (why.Source side.Forward given) old =
+    MayRefuseInput old (IsTrue (old.is_open inputs.forward)) inputs.forward given
+TellsInputs inputs (why.Source side.Reverse given) old = IsSome (old.bytes inputs.forward)
+    × MayRefuseInput old
+    ((inputs.reverse ≡ inputs.forward) ⊎ MayRefuse old inputs.reverse cause.Input)
+    inputs.reverse given
 TellsInputs inputs (why.Target out cause) old = AreThere inputs old.bytes
 TellsInputs inputs (why.Report cause) old = AreThere inputs old.bytes
 TellsInputs inputs _ old = Unit {0}

@@ -1,14 +1,17 @@
 -- Inputs that are opened, and outputs that are made, before a pair is read.
 use Rattle.std.specs.Prelude.{◌≡◌, ◌≢◌, ◌⊎◌, ℕ, false, IsTrue, IfSome, is_some, Option, Some, None, List, []}
 use Rattle.fq_files.specs.Holding.{IsUnchanged}
-use Rattle.fq_files.specs.States.{FilesState, MayRefuse}
+use Rattle.fq_files.specs.States.{FilesState, MayRefuse, MayRefuseInput}
+use Rattle.fq_files.specs.declared.files.Cause.{Cause}
+use Rattle.fq_files.specs.declared.files.Cause.TheVariants.{Input}
 use Rattle.fq_pair.specs.declared.out.Out.{Out}
 use Rattle.fq_text.specs.Devices.{FeedState, OutletState}
 use Rattle.fq_pair.specs.declared.side.Side.{Side}
 use Rattle.fq_run_core.specs.Devices.{OutletStates, AreHealthy}
 use Rattle.fq_cli.specs.Requests.{Asking, InputNames, input_name, is_input, output_name}
 use Rattle.fq_files_run.specs.declared.refusal.Refusal.{Refusal}
-use Rattle.fq_files_run.specs.Refusals.{status_of, IsMemory, IsRefusable, IsReport, IsSource}
+use Rattle.fq_files_run.specs.declared.refusal.Refusal.TheVariants as refusal
+use Rattle.fq_files_run.specs.Refusals.{status_of, IsMemory, IsRefusable, IsReport}
 use Rattle.fq_files_run.specs.Trimming.{Opened, IsNoOutput, KeepsUnnamed, IsFed, AreFresh, AreFed, AreEmpty, IsEmptyOutlet, AreHeld}
 use Rattle.fq_files_run.specs.Leaving.{AreThere, TellsInputs, RefusalLeaves, ReportLeft, is_early}
 use Rattle.fq_files_run.specs.Reporting.{IsReportOpen}
@@ -18,12 +21,12 @@ pub record IsInputOpened (name : List ℕ) (old : FilesState) (feed : FeedState)
   pub fresh : feed.failures ≡ 0
   pub fed : IsTrue old.tells → IsFed feed.tells feed.to_come (old.bytes name)
 
--- An input or memory for it was refused. A file that is refused is not there, or leads to an input.
+-- An input or memory for it was refused, an input for the cause that the files gave.
 pub record IsInputRefused (names : InputNames)
     (side : Side) (why : Refusal) (old : FilesState) : Type 0 where
-  pub missing : IsMemory why ⊎ (IsSource side why × (IsTrue old.tells →
-      (old.bytes (input_name names side) ≡ None)
-      ⊎ IsTrue (old.is_open (input_name names side))))
+  pub refused : IsMemory why ⊎ ((cause : Cause) × (why ≡ refusal.Source side cause)
+      × MayRefuseInput old (IsTrue (old.is_open (input_name names side)))
+      (input_name names side) cause)
   pub early : IsTrue (is_early why)
   pub late : status_of why ≢ 2
 
@@ -73,10 +76,11 @@ pub record AreOpened (a : Asking) (old new : FilesState)
   pub fed : IsTrue old.tells → AreFed inputs a.inputs old.bytes
   pub rest : IsTrue old.tells → KeepsUnnamed a old.bytes new.bytes
 
--- A name that leads to an input once these inputs are opened: it is the name of one, it led to an
--- input before, or it may lead to the file of another name.
-abbrev pub MayLead : InputNames → FilesState → List ℕ → Type 0
-MayLead inputs old name = IsTrue (is_input inputs name) ⊎ MayRefuse old name
+-- A name may be refused for this cause once these inputs are opened: it is the name of one, and that
+-- is the cause; or it might have been before.
+abbrev pub MayLead : InputNames → FilesState → List ℕ → Cause → Type 0
+MayLead inputs old name cause = ((cause ≡ Input) × IsTrue (is_input inputs name))
+    ⊎ MayRefuse old name cause
 
 -- this is the name of an output or of the report
 abbrev pub IsMade : Asking → List ℕ → Type 0

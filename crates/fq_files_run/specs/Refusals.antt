@@ -3,7 +3,6 @@ use Rattle.std.specs.Prelude.{◌≡◌, ℕ, Some, List, [], ◌++◌, codes, d
 use Rattle.fq_text.specs.declared.memory.MemoryRefused.{MemoryRefused}
 use Rattle.fq_files.specs.declared.files.Cause.{Cause}
 use Rattle.fq_pair.specs.declared.out.Out.{Out}
-use Rattle.fq_pair.specs.declared.side.Side.{Side}
 use Rattle.fq_trim.specs.declared.fault.StepFaultKind.{StepFaultKind}
 use Rattle.fq_trim.specs.declared.fault.StepFaultKind.TheVariants as step
 use Rattle.fq_run_core.specs.declared.settings.BadSetting.{BadSetting}
@@ -29,20 +28,18 @@ status_of (Memory refused) = 5
 abbrev pub IsMemory : Refusal → Type 0
 IsMemory refusal = (refused : MemoryRefused) × (refusal ≡ Memory refused)
 
--- the input of this side was refused, this output, or the report
-abbrev pub IsSource : Side → Refusal → Type 0
-IsSource side refusal = (cause : Cause) × (refusal ≡ Source side cause)
-
+-- this output was refused, or the report
 abbrev pub IsTarget : Out → Refusal → Type 0
 IsTarget out refusal = (cause : Cause) × (refusal ≡ Target out cause)
 
 abbrev pub IsReport : Refusal → Type 0
 IsReport refusal = (cause : Cause) × (refusal ≡ Report cause)
 
--- an output or the report is refused only under a name of which this holds
-abbrev pub IsRefusable : Asking → (List ℕ → Type 0) → Refusal → Type 0
-IsRefusable a P (Target out cause) = (name : List ℕ) × (output_name a out ≡ Some name) × P name
-IsRefusable a P (Report cause) = (name : List ℕ) × (a.report ≡ Some name) × P name
+-- an output or the report is refused only under a name and for a cause of which this holds
+abbrev pub IsRefusable : Asking → (List ℕ → Cause → Type 0) → Refusal → Type 0
+IsRefusable a P (Target out cause) =
+    (name : List ℕ) × (output_name a out ≡ Some name) × P name cause
+IsRefusable a P (Report cause) = (name : List ℕ) × (a.report ≡ Some name) × P name cause
 IsRefusable a P _ = Unit {0}
 
 abbrev pub step_fault_name : StepFaultKind → List ℕ

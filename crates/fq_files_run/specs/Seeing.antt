@@ -4,7 +4,8 @@ use Rattle.fq_text.specs.Devices.{FeedState}
 use Rattle.fq_text.specs.declared.fault.TextFault.{TextFault}
 use Rattle.fq_text.specs.Looks.{look_of}
 use Rattle.fq_files.specs.Holding.{Holding}
-use Rattle.fq_cli.specs.Requests.{InputNames, input_name}
+use Rattle.fq_files.specs.States.{Errors, MaySay}
+use Rattle.fq_cli.specs.Requests.{Asking, InputNames, input_name, output_name}
 use Rattle.fq_run_core.specs.Endings.{failures_in}
 use Rattle.fq_text.specs.declared.seen.Look.TheVariants.{Unknown}
 use Rattle.fq_text.specs.declared.seen.Seen.{Seen}
@@ -53,6 +54,28 @@ pub record IsSaid (names : InputNames) (files : Holding) (outcome : Outcome)
       seen.look ≡ look_of bytes
   pub no_error : (side : Side) (fault : TextFault) → outcome ≡ Input (Text side fault) →
       seen.error ≡ None
+
+-- the file that an outcome names: the output that was not written, or the input that could not be
+-- read or has a fault
+abbrev pub file_of : Asking → Outcome → Option (List ℕ)
+file_of a (Write out) = output_name a out
+file_of a (Read side) = Some (input_name a.inputs side)
+file_of a (Input (Text side fault)) = Some (input_name a.inputs side)
+file_of a _ = None
+
+-- an error is told only of the file that the outcome names, and a device of its name may say it
+abbrev pub IsItsError : Asking → Errors → Outcome → EndingSeen → Type 0
+IsItsError a may_say outcome seen = MaySay may_say (file_of a outcome) seen.error
+
+-- so it is with each input
+abbrev pub InputsMaySay : InputNames → Errors → InputsSeen → Type 0
+InputsMaySay names may_say said = (side : Side) →
+    MaySay may_say (Some (input_name names side)) (input_seen said side).error
+
+-- and with each output
+abbrev pub OutputsMaySay : Asking → Errors → Outlets (Option SystemError) → Type 0
+OutputsMaySay a may_say errors = (out : Out) →
+    MaySay may_say (output_name a out) (error_of errors out)
 
 abbrev pub nothing_seen : Seen
 nothing_seen = record { error = None; look = Unknown }

@@ -2,13 +2,14 @@
 
 ghost use Rattle.std.specs.Prelude.{◌≡◌, ◌≢◌, ℕ, List, Some, None, IsTrue, IsSome, IfOk, IfErr};
 ghost use Rattle.std.specs.Option.{option_map};
-ghost use Rattle.fq_files.specs.States.{MayRefuse, OnlyFails, OnlyOpens};
+ghost use Rattle.fq_files.specs.States.{MayRefuse, MaySay, OnlyFails, OnlyOpens};
+ghost use Rattle.fq_files.specs.declared.files.Cause.TheVariants.{Input};
 ghost use Rattle.fq_cli.specs.Requests.{asking_of, input_name};
 ghost use Rattle.fq_files_run.specs.Trimming.{opened_of, left_of, form_of};
 ghost use Rattle.fq_files_run.specs.Leaving.{AreThere};
 ghost use Rattle.fq_files_run.specs.Opening.{AreInputsOpened, AreInputsRefused, IsInputOpened, IsInputRefused, MayLead};
 ghost use Rattle.fq_files_run.specs.Completing.{IsFeedCounted, AreFeedsCounted};
-ghost use Rattle.fq_files_run.specs.Seeing.{LookAsTheyAre, FailAsTheyDid};
+ghost use Rattle.fq_files_run.specs.Seeing.{LookAsTheyAre, FailAsTheyDid, InputsMaySay};
 ghost use Rattle.fq_run_core.specs.Endings.{failures_in};
 ghost use Rattle.fq_text.specs.Looks.{look_of};
 
@@ -48,7 +49,7 @@ pub(crate) fn inputs<T: Files>(
         AreInputsRefused (asking_of request.now).inputs why (T.state files.old)) }
     ensures kept { OnlyOpens (T.state files.old) (T.state files.new) }
     ensures linked { (name : List ℕ) → IsTrue ((T.state files.new).is_open name)
-        → MayLead (asking_of request.now).inputs (T.state files.old) name }
+        → MayLead (asking_of request.now).inputs (T.state files.old) name Input }
 {
     let feeds = match request.inputs {
         Inputs::Apart { .. } => {
@@ -72,7 +73,8 @@ fn input<T: Files>(request: &Request<'_>, files: &mut T, side: Side) -> Result<T
         IsInputRefused (asking_of request.now).inputs side why (T.state files.old)) }
     ensures kept { OnlyOpens (T.state files.old) (T.state files.new) }
     ensures linked { (other : List ℕ) → other ≢ input_name (asking_of request.now).inputs side
-        → IsTrue ((T.state files.new).is_open other) → MayRefuse (T.state files.old) other }
+        → IsTrue ((T.state files.new).is_open other)
+        → MayRefuse (T.state files.old) other Input }
 {
     files
         .source(request.input_name(side))
@@ -96,6 +98,7 @@ pub fn inputs_done<T: Files>(
         → LookAsTheyAre (asking_of request.now).inputs (T.state files.old).bytes
         (left_of T.In.state feeds) result }
     ensures why { FailAsTheyDid (left_of T.In.state feeds) result }
+    ensures says { InputsMaySay (asking_of request.now).inputs (T.state files.old).may_say result }
 {
     match feeds {
         Feeds::Apart { forward, reverse } => {
@@ -130,6 +133,8 @@ fn input_done<T: Files>(
         → (T.state files.old).bytes (input_name (asking_of request.now).inputs side) ≡ Some bytes
         → result.look ≡ look_of bytes }
     ensures why { failures_in (option_map T.In.state feed) ≡ 0 → result.error ≡ None }
+    ensures says { MaySay (T.state files.old).may_say
+        (Some (input_name (asking_of request.now).inputs side)) result.error }
 {
     match feed {
         Some(feed) => files.source_done(request.input_name(side), feed),

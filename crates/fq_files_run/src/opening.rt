@@ -62,7 +62,8 @@ fn input_among_outputs<T: Files>(request: &Request<'_>, files: &T) -> Option<Out
     ensures none { result ≡ None → IsTrue (T.state files.now).tells
         → AreApart (asking_of request.now) (T.state files.now) }
     ensures refused { IfSome result (λ out. IsRefusable (asking_of request.now)
-        (λ name. IsTrue ((T.state files.now).is_open name)) (Refusal.Target out Cause.Input)) }
+        (λ name cause. IsTrue ((T.state files.now).is_open name))
+        (Refusal.Target out Cause.Input)) }
 {
     if files.leads_to_input(request.forward_paired) {
         return Some(Out::ForwardPaired);
@@ -88,7 +89,7 @@ fn input_as_report<T: Files>(request: &Request<'_>, files: &T) -> bool
         → (asking_of request.now).report ≡ Some name
         → (T.state files.now).is_open name ≡ false }
     ensures refused { IsTrue result → IsRefusable (asking_of request.now)
-        (λ name. IsTrue ((T.state files.now).is_open name)) (Refusal.Report Cause.Input) }
+        (λ name cause. IsTrue ((T.state files.now).is_open name)) (Refusal.Report Cause.Input) }
 {
     request
         .report

@@ -1,10 +1,11 @@
 //! Makes the files of the outputs, and hands their outlets back after the run.
 
 ghost use Rattle.std.specs.Prelude.{IsTrue, IsSome, IfOk, IfErr};
-ghost use Rattle.fq_files.specs.States.{OnlyStores, OnlyWrites, StillHeld};
+ghost use Rattle.fq_files.specs.States.{MaySay, OnlyStores, OnlyWrites, StillHeld};
 ghost use Rattle.fq_run_core.specs.Devices.{outlet_states};
 ghost use Rattle.fq_cli.specs.Requests.{asking_of, output_name};
 ghost use Rattle.fq_files_run.specs.Trimming.{AreHeld};
+ghost use Rattle.fq_files_run.specs.Seeing.{OutputsMaySay};
 ghost use Rattle.fq_files_run.specs.Making.{AreOutputsMade, AreOutputsRefused, AreOutputsStored, IsOutputMade, IsOutputRefused, IsOutputStored};
 
 use crate::refusal::{Refusal, target_refused};
@@ -72,6 +73,7 @@ pub fn store<T: Files>(
         → AreHeld (asking_of request.now) (T.state files.old).bytes }
     ensures stored { AreOutputsStored (asking_of request.now)
         (outlet_states T.Target.state outlets) (T.state files.old) (T.state files.new) }
+    ensures says { OutputsMaySay (asking_of request.now) (T.state files.old).may_say result }
     ensures names { StillHeld (T.state files.old) (T.state files.new) }
     ensures kept { OnlyStores (T.state files.old) (T.state files.new) }
 {
@@ -113,6 +115,8 @@ fn store_one<T: Files>(
         → AreHeld (asking_of request.now) (T.state files.new).bytes }
     ensures stored { IsOutputStored (asking_of request.now) out
         (T.Target.state outlet) (T.state files.old) (T.state files.new) }
+    ensures says { MaySay (T.state files.old).may_say
+        (output_name (asking_of request.now) out) result }
     ensures names { StillHeld (T.state files.old) (T.state files.new) }
     ensures kept { OnlyStores (T.state files.old) (T.state files.new) }
 {

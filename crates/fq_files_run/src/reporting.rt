@@ -2,7 +2,7 @@
 
 ghost use Rattle.std.specs.Prelude.{◌≡◌, ℕ, List, Some, None, [], option_map, IfOk, OnOk, OnErr, IfErr};
 ghost use Rattle.std.specs.String.{string_bytes};
-ghost use Rattle.fq_files.specs.States.{OnlyStores, OnlyWrites, StillHeld};
+ghost use Rattle.fq_files.specs.States.{MaySay, OnlyStores, OnlyWrites, StillHeld};
 ghost use Rattle.fq_text.specs.Written.{line};
 ghost use Rattle.fq_report.specs.Reports.{text_of};
 ghost use Rattle.fq_cli.specs.Requests.{asking_of};
@@ -50,8 +50,10 @@ pub(crate) fn report_target<T: Files>(
     let Some(name) = request.report else {
         return Ok(None);
     };
-    let target = files.target(name).map_err(|fault| report_refused(fault))?;
-    Ok(Some(target))
+    match files.target(name) {
+        Ok(target) => Ok(Some(target)),
+        Err(fault) => Err(report_refused(fault)),
+    }
 }
 
 /// Writes the report if one was asked for and the run ended whole, and hands its outlet back.
@@ -68,6 +70,7 @@ pub fn store_report<T: Files>(
         (T.state files.old) (option_map T.Target.state target) }
     ensures stored { IsReportStored (asking_of request.now) encoding account.now
         (option_map T.Target.state target) result.0 (T.state files.old) (T.state files.new) }
+    ensures says { MaySay (T.state files.old).may_say (asking_of request.now).report result.1 }
     ensures kept { OnlyStores (T.state files.old) (T.state files.new) }
 {
     match (request.report, target) {

@@ -75,7 +75,8 @@ impl Files for TroubledFiles<'_> {
     ghost state = { λ _. record {
       tells = false;
       bytes = λ _. None;
-      refuses = λ _. true;
+      refuses = λ _ _. true;
+      may_say = λ _ _. true;
       is_open = λ _. true;
       has_failed = λ _. true;
       is_unflushed = λ _. true;

@@ -1,4 +1,4 @@
-use Rattle.std.proofs.Common.{Some, None, refl, inl, inr, ⊎_elim}
+use Rattle.std.proofs.Common.{refl, inl, inr}
 use Rattle.fq_cli.specs.Requests.{asking_of}
 use Rattle.fq_app.proofs.AnswerLemmas.{memory_took}
 use Rattle.fq_app.proofs.answering.tell.Goals as goal
@@ -9,8 +9,7 @@ returns-in-Failed-clause-line g c =
     λ some. inr (inl (
       c.in-Failed.is,
       c.cannot_report.ensures.status,
-      ⊎_elim (λ took. (Some c.args.completed.now.report_error, took)) (λ took. (None, took))
-          c.cannot_report.ensures.told,
+      c.cannot_report.ensures.told,
     ))
 
 -- memory for the report was refused, and standard error took the line for it

@@ -26,8 +26,8 @@ returns-in-Ok-clause-pairs g c =
     } in
     let line : c.tell.result ≢ 0 → TookLine a _ _ _ _ c.tell.result =
     λ some. told_line a _ _ account.outcome account.counts reported run
-    c.in-Ok.completed.seen c.in-Ok.ensures.completed.said _ _ _
-    (c.tell.ensures.line some) in
+    c.in-Ok.completed.seen c.in-Ok.ensures.completed.said c.in-Ok.ensures.completed.its_error
+    _ c.in-Ok.ensures.report_says _ _ _ (c.tell.ensures.line some) in
     let whole : (c.tell.result ≡ 0) ⊎ (c.tell.result ≡ 3) →
     IsTrue (g.T.Files.state c.args.files.now).tells → EndsWhole a _ _ _ _ c.tell.result =
     λ ends told.
@@ -67,6 +67,7 @@ returns-in-Ok-clause-device g c = λ four.
     failed_device (asking_of c.args.request.now) _ _
     (device_of g.O.Outlet.state c.args.out.now c.tell.new.out) _ _
     c.in-Ok.completed.seen c.in-Ok.completed.account.outcome c.in-Ok.completed.reported
+    c.in-Ok.completed.report_error completed.its_error c.in-Ok.ensures.report_says
     completed.failed completed.as_it_is completed.report_failed
     (c.tell.ensures.line (λ zero. absurd (omega (arith, four, zero)))) four
 

@@ -7,14 +7,16 @@ use Rattle.fq_run.specs.Outcome.TheVariants.{Input}
 use Rattle.fq_run.specs.Endings.{AreTold, ends_whole}
 use Rattle.fq_cli.specs.Requests.{asking_of}
 use Rattle.fq_files_run.specs.Trimming.{opened_of, left_of, run_in}
-use Rattle.fq_files.specs.States.{FilesState}
-use Rattle.fq_files.proofs.StateLemmas.{same_as, store_fail, then_store, told_as, told_before}
+use Rattle.fq_files.specs.States.{Errors, FilesState, MaySay}
+use Rattle.fq_files.proofs.StateLemmas.{same_as, says_as, store_fail, then_store, told_as, told_before}
 use Rattle.fq_files_run.proofs.StoreLemmas.{all_hold}
 use Rattle.fq_files_run.proofs.EndingLemmas.{ends_so}
 use Rattle.fq_files_run.proofs.FailureLemmas.{as_it_is, fails_as_told, feed_sound, not_lane, outlets_flushed, outlets_sound}
 use Rattle.fq_files_run.proofs.CompletingLemmas.{IsHeld, first_pairs, report_of_run, sides_in, trims_files}
 use Rattle.fq_files_run.proofs.OpeningLemmas.{inputs_kept}
-use Rattle.fq_files_run.proofs.SaidLemmas.{is_said}
+use Rattle.fq_files_run.specs.Seeing.{InputsMaySay, OutputsMaySay}
+use Rattle.fq_files_run.specs.Faults.{settled}
+use Rattle.fq_files_run.proofs.SaidLemmas.{is_said, its_error}
 use Rattle.fq_app.proofs.trimming.complete.Goals as goal
 
 -- the file of each output exists when the outlets are handed back
@@ -31,6 +33,12 @@ pub returns : goal.returns
 returns g c = record {
   witnessed = c.run-account.ensures.witnessed;
   no_gate = c.run-account.ensures.no_gate;
+  report_says =
+      let a = asking_of c.args.request.now in
+      let P : Errors → Type 0 =
+      λ may_say. MaySay may_say a.report c.store_report-reported.result.1 in
+      says_as _ _ P c.inputs_done-inputs.ensures.kept
+      (says_as _ _ P c.store-errors.ensures.kept c.store_report-reported.ensures.says);
   kept =
       let files = g.T.Files.state in
       let started = files c.args.files.now in
@@ -123,6 +131,15 @@ returns g c = record {
               feed_sound choices run every whole
                   Reverse,
             ));
+        its_error =
+            let inputs_say : Errors → Type 0 =
+            λ may_say. InputsMaySay a.inputs may_say c.inputs_done-inputs.result in
+            let outputs_say : Errors → Type 0 =
+            λ may_say. OutputsMaySay a may_say c.store-errors.result in
+            its_error a start.may_say c.inputs_done-inputs.result c.store-errors.result
+            c.run-account.result.unmatched (says_as _ _ inputs_say since done.says)
+            (says_as _ _ outputs_say since (says_as _ _ outputs_say done.kept stored.says))
+            (settled account.outcome) _ c.seen_of.ensures;
         report_failed = reported.failed;
         sound = λ whole written.
             let every = c.run-account.ensures.every (not_lane account.outcome whole) in

@@ -5,6 +5,7 @@ use Rattle.fq_run_core.specs.Devices.{outlet_states, outlet_at}
 use Rattle.fq_cli.specs.Requests.{asking_of, output_name}
 use Rattle.fq_files_run.proofs.StoreLemmas.{none_stored, no_log_stored}
 use Rattle.fq_files_run.proofs.CountingLemmas.{none_counted, no_log_counted}
+use Rattle.fq_files_run.proofs.SaidLemmas.{four_say, none_said}
 use Rattle.fq_files_run.proofs.outputs.store.Goals as goal
 use Rattle.fq_files_run.proofs.outputs.store.Goals.{in_default-via-in-Some+in_default, in_default-via-in_default}
 
@@ -67,3 +68,43 @@ returns-in_default-clause-stored g c =
           ∙ (three.flushed flushed.reverse_paired
           ∙ (two.flushed flushed.forward_unpaired ∙ one.flushed flushed.forward_paired));
     }
+
+-- with a trim log, each of the five outputs says what its outlet may say
+pub returns-in-Some-Some-clause-says : goal.returns-in-Some-Some-clause-says
+returns-in-Some-Some-clause-says g c =
+    let one = c.store_one-forward_paired in
+    let two = c.store_one-forward_unpaired in
+    let three = c.store_one-reverse_paired in
+    let four = c.store_one-reverse_unpaired in
+    four_say (asking_of c.args.request.now) (g.T.Files.state c.args.files.now)
+    (g.T.Files.state one.new.files) (g.T.Files.state two.new.files)
+    (g.T.Files.state three.new.files) (g.T.Files.state four.new.files)
+    (record {
+      forward_paired = one.result;
+      forward_unpaired = two.result;
+      reverse_paired = three.result;
+      reverse_unpaired = four.result;
+      log = Some c.store_one.result;
+    }) one.ensures.kept two.ensures.kept three.ensures.kept four.ensures.kept one.ensures.says
+    two.ensures.says three.ensures.says four.ensures.says c.store_one.ensures.says
+
+-- without a trim log, each of the four does
+pub returns-in_default-clause-says : goal.returns-in_default-clause-says
+returns-in_default-clause-says g c =
+    let one = c.store_one-forward_paired in
+    let two = c.store_one-forward_unpaired in
+    let three = c.store_one-reverse_paired in
+    let four = c.store_one-reverse_unpaired in
+    let a = asking_of c.args.request.now in
+    four_say a (g.T.Files.state c.args.files.now)
+    (g.T.Files.state one.new.files) (g.T.Files.state two.new.files)
+    (g.T.Files.state three.new.files) (g.T.Files.state four.new.files)
+    (record {
+      forward_paired = one.result;
+      forward_unpaired = two.result;
+      reverse_paired = three.result;
+      reverse_unpaired = four.result;
+      log = None;
+    }) one.ensures.kept two.ensures.kept three.ensures.kept four.ensures.kept one.ensures.says
+    two.ensures.says three.ensures.says four.ensures.says
+    (none_said (g.T.Files.state four.new.files).may_say a.log None refl)

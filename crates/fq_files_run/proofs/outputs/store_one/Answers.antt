@@ -1,5 +1,6 @@
-use Rattle.std.proofs.Common.{◌∙◌, sym, ap}
+use Rattle.std.proofs.Common.{◌∙◌, ℕ, List, Option, sym, ap, subst}
 use Rattle.std.specs.Option.{option_map}
+use Rattle.fq_files.specs.States.{MaySay}
 use Rattle.fq_files.proofs.StateLemmas.{told_before}
 use Rattle.fq_cli.specs.Requests.{asking_of}
 use Rattle.fq_files_run.proofs.StoreLemmas.{one_stored}
@@ -32,3 +33,11 @@ returns-clause-stored g c =
           c.done.ensures.failed c.done.ensures.sound c.done.ensures.still first;
       flushed = c.done.ensures.flushed;
     }
+
+-- an error that is told is one of this output
+pub returns-clause-says : goal.returns-clause-says
+returns-clause-says g c =
+    let named = sym c.output_name.ensures ∙ ap (option_map (λ name. name.now)) c.in-Some.is in
+    let P : Option (List ℕ) → Type 0 =
+    λ name. MaySay (g.T.Files.state c.args.files.now).may_say name c.done.result in
+    subst P (sym named) c.done.ensures.says
