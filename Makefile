@@ -4,10 +4,10 @@
 # (Debian: gcc, libc6-dev).
 PREFIX ?= /usr/local
 PROGRAM = crates/fq_prog/out/fq_prog
-ROWS = crates/fq_rows/out/fq_rows
-LANE_TESTS = crates/fq_lane/out/fq_lane_tests crates/fq_lane_tests/out/fq_lane_tests_tests
+ROWS = crates/fq_test_rows/out/fq_test_rows
+LANE_TESTS = crates/fq_lane/out/fq_lane_tests crates/fq_test_lane/out/fq_test_lane_tests
 SOURCES := HANDLES crates.txt $(shell find crates -name out -prune -o '(' -name '*.rt' -o -name '*.antt' ')' -print)
-VERSION := $(shell sed -n 's/^pub const VERSION: &str = "\([0-9.]*\)";/\1/p' crates/fq_cli/src/words.rt)
+VERSION := $(shell sed -n 's/^pub const VERSION: &str = "\([0-9.]*\)";/\1/p' crates/fq_app_words/src/words.rt)
 SHOW = bash packaging/progress.sh
 NEEDS_KIT = @bash packaging/needs.sh
 .DEFAULT_GOAL := help
@@ -53,7 +53,7 @@ $(PROGRAM): $(SOURCES)
 # (The proved test programs that scripts of tests/ run. A gate leaves them.)
 $(ROWS): $(SOURCES)
 	$(NEEDS_KIT)
-	@cd crates/fq_rows && bash ../../packaging/progress.sh rt run -- judge
+	@cd crates/fq_test_rows && bash ../../packaging/progress.sh rt run -- judge
 	@touch $@
 
 $(LANE_TESTS): $(SOURCES)

@@ -17,9 +17,9 @@ fi
 
 # In each list a crate comes after those that it depends on. What is beside the chain is in the chain
 # too, but proved by then. 'after:CRATE' waits until the chain has proved that crate.
-chain=(fq_text fq_trim fq_pair fq_read_tally fq_tally fq_lane fq_run_core fq_block fq_work fq_run fq_cli fq_files fq_report fq_in_step fq_files_run fq_reasons fq_app)
-threads=(fq_lane after:fq_text fq_files after:fq_pair fq_cli fq_block after:fq_tally fq_work)
-reports=(after:fq_trim fq_read_tally after:fq_tally fq_report after:fq_run_core fq_files_run fq_reasons)
+chain=(fq_text fq_trim fq_pair fq_report_reads fq_report_pairs fq_lane fq_run_core fq_block fq_work fq_run fq_app_words fq_files fq_report fq_law_in_step fq_app_files fq_app_reasons fq_app)
+threads=(fq_lane after:fq_text fq_files after:fq_pair fq_app_words fq_block after:fq_report_pairs fq_work)
+reports=(after:fq_trim fq_report_reads after:fq_report_pairs fq_report after:fq_run_core fq_app_files fq_app_reasons)
 processors=$(nproc)
 jobs=(--jobs "${JOBS:-$processors}")
 report_jobs=$((processors - 1))
@@ -91,10 +91,10 @@ not_built() {
 echo "Proves ${#chain[@]} libraries and the program: 11 to 37 minutes on four processors, if nothing is kept of earlier builds."
 # What reports need takes as long as what the chain proves at the same time.
 if [ "$processors" -ge 4 ]; then
-  beside 1 "${threads[@]}" fq_in_step
+  beside 1 "${threads[@]}" fq_law_in_step
   beside "$report_jobs" "${reports[@]}"
 else
-  beside 1 "${threads[@]}" "${reports[@]}" fq_in_step
+  beside 1 "${threads[@]}" "${reports[@]}" fq_law_in_step
 fi
 for crate in "${chain[@]}"; do
   [ ! -e "$room/failed" ] || not_built

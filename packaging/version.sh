@@ -26,9 +26,9 @@ fi
 versions() {
   local name file
   sed 's/  */ /g; s/ | /\t/g' << 'END'
-crates/fq_cli/src/words.rt | ^pub const VERSION: &str = " | ";$
-crates/fq_rows/data/words.rows | ^= text: fq_prog | \\n$
-crates/fq_rows/data/report.rows | ^let run reported [0-9]+: "version":" | "\}$
+crates/fq_app_words/src/words.rt | ^pub const VERSION: &str = " | ";$
+crates/fq_test_rows/data/words.rows | ^= text: fq_prog | \\n$
+crates/fq_test_rows/data/report.rows | ^let run reported [0-9]+: "version":" | "\}$
 docs/FORMAT.md | ^ *"version": " | "\}$
 docs/GUIDE.md | tibzharuk- | -oci\.tar
 docs/GUIDE.md | Tibzharuk \(fq_prog\) | , with the steps

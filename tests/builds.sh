@@ -145,7 +145,7 @@ made 130 make -C "$room/copy" build
 silent Terminated
 
 row='make test is interrupted'
-interrupted=(fq_text fq_lane fq_text_tests must_not_compile.sh)
+interrupted=(fq_text fq_lane fq_test_text must_not_compile.sh)
 made 130 make -C "$room/copy" test
 silent Terminated
 

@@ -243,9 +243,9 @@ compare_numbers() {
   while IFS= read -r number; do
     grep -qE "^\| \`make build\` \|.*\| ${number% minutes} \|" docs/GATE.md || fail "docs/GATE.md doesn't say that \`make build\` takes $number"
   done < <(grep -ohE '[0-9]+ to [0-9]+ minutes' README.md CONTRIBUTING.md packaging/build.sh packaging/run_examples.sh | sort -u)
-  rows=$(grep -oE '^[0-9]+' crates/fq_rows/stdout)
+  rows=$(grep -oE '^[0-9]+' crates/fq_test_rows/stdout)
   number=$(tr '\n' ' ' < docs/ARCHITECTURE.md | grep -oE 'some [0-9]+ of them' | grep -oE '[0-9]+')
-  [ $(((rows + 5) / 10)) -eq $(((number + 5) / 10)) ] || fail "docs/ARCHITECTURE.md says some $number rows, and fq_rows has $rows"
+  [ $(((rows + 5) / 10)) -eq $(((number + 5) / 10)) ] || fail "docs/ARCHITECTURE.md says some $number rows, and fq_test_rows has $rows"
   count=$(documents | xargs grep -ohE 'rattle-kit-[0-9a-z]+' | sort -u | wc -l)
   [ "$count" -le 1 ] || fail "documents name $count kits"
 }

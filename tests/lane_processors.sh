@@ -11,7 +11,7 @@ rounds=${ROUNDS:-5}
 seconds=${SECONDS_EACH:-60}
 room=$(mktemp -d)
 trap 'rm -rf "$room"' EXIT
-programs=(crates/fq_lane/out/fq_lane_tests crates/fq_lane_tests/out/fq_lane_tests_tests)
+programs=(crates/fq_lane/out/fq_lane_tests crates/fq_test_lane/out/fq_test_lane_tests)
 need_proved "${programs[@]}"
 cp "${programs[@]}" "$room/"
 

@@ -208,11 +208,11 @@ RT
 # Where the program's crates write an error of std as a value: once in each of these files.
 error='(AllocError|OutOfMemory)'
 written=$(grep -rcE "\\($error\\)|= $error;|$error\\.into" --include='*.rt' crates/*/src |
-  grep -vE ':0$|^crates/([a-z_]+_tests|fq_(rows|worked|samples))/' | sort)
+  grep -vE ':0$|^crates/fq_test_[a-z_]+/' | sort)
 wanted='crates/fq_app/src/answering.rt:1
 crates/fq_app/src/example.rt:1
-crates/fq_files_run/src/refusal.rt:1
-crates/fq_files_run/src/reporting.rt:1
+crates/fq_app_files/src/refusal.rt:1
+crates/fq_app_files/src/reporting.rt:1
 crates/fq_prog/src/main.rt:1
 crates/fq_run_core/src/occurred.rt:1'
 [ "$written" = "$wanted" ] || fail "errors of std are written as values in: $written"

@@ -3,7 +3,7 @@
 # until a run meets no refusal. Then the same with runs over an interleaved text.
 # Such a run may end because memory was refused, by a failed write (a growth of an outlet) or by a
 # refused thread, but never as if nothing had been refused. Its outputs must be those of the first
-# pairs. The program fq_rows, called with `judge`, runs and checks that.
+# pairs. The program fq_test_rows, called with `judge`, runs and checks that.
 #
 # Then each thread of the runs with two workers is refused in turn. The run must report that and
 # write nothing. Its feeds are lost if the reading thread was refused, and otherwise come back
@@ -19,8 +19,8 @@ rounds=${ROUNDS:-3}
 room=$(mktemp -d)
 trap 'rm -rf "$room"' EXIT
 
-need_proved crates/fq_rows/out/fq_rows
-program=$tree/crates/fq_rows/out/fq_rows
+need_proved crates/fq_test_rows/out/fq_test_rows
+program=$tree/crates/fq_test_rows/out/fq_test_rows
 
 for source in refuse refuse_thread; do
   compile_library "$here/$source.c" "$room/$source.so"

@@ -1,5 +1,5 @@
 #!/usr/bin/env bash
-# Gives the program fq_rows rows with one mistake each: a wrong answer, an expected part that the
+# Gives the program fq_test_rows rows with one mistake each: a wrong answer, an expected part that the
 # answer lacks, no expected answer, a key that nothing reads, a number too few, a text without a
 # name. Each must fail, with a line that says why.
 set -uo pipefail
@@ -8,8 +8,8 @@ set -uo pipefail
 room=$(mktemp -d)
 trap 'rm -rf "$room"' EXIT
 
-need_proved crates/fq_rows/out/fq_rows
-program=$tree/crates/fq_rows/out/fq_rows
+need_proved crates/fq_test_rows/out/fq_test_rows
+program=$tree/crates/fq_test_rows/out/fq_test_rows
 
 cp tests/wrong_rows/wrong.rows "$room/"
 (cd "$room" && "$program" wrong.rows) > "$room/said" 2>&1

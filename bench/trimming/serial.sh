@@ -12,7 +12,7 @@ trap 'rm -rf "$scratch"' EXIT
 mkdir -p "$scratch/crates/serial/src"
 cp "$top/HANDLES" "$scratch/"
 echo 'serial: fq_files fq_run fq_pair fq_trim fq_text anyhow' > "$scratch/crates.txt"
-for crate in fq_text fq_samples fq_trim fq_read_tally fq_pair fq_tally fq_lane fq_block fq_work fq_run_core fq_run fq_files; do
+for crate in fq_text fq_test_texts fq_trim fq_report_reads fq_pair fq_report_pairs fq_lane fq_block fq_work fq_run_core fq_run fq_files; do
   grep -E "^${crate}[ :]" "$top/crates.txt" >> "$scratch/crates.txt"
   cp -a "$top/crates/$crate" "$scratch/crates/"
 done

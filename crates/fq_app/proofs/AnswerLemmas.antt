@@ -12,28 +12,28 @@ use Rattle.clap.specs.declared.error.kind.ErrorKind.{ErrorKind}
 use Rattle.fq_run.specs.Outcome.{Outcome}
 use Rattle.fq_run.specs.Outcome.TheVariants.{Spawn, Lane, Gate, Memory, Write, Read, Endless, Input, Finished}
 use Rattle.fq_run.specs.Endings.{ends_whole}
-use Rattle.fq_files_run.specs.Faults.{settled, status_when, outcome_status, line_when, memory_words}
+use Rattle.fq_app_files.specs.Faults.{settled, status_when, outcome_status, line_when, memory_words}
 use Rattle.fq_text.specs.Written.{line}
 use Rattle.fq_text.specs.declared.seen.SystemError.{SystemError}
-use Rattle.fq_reasons.specs.Lines.{explained, line_of, ending_line, ending_line_when, line_for, report_line, report_memory_line}
-use Rattle.fq_cli.specs.Requests.{Asking, input_name}
-use Rattle.fq_cli.specs.Words.{AskedFor, asked_pairs, pairs_asked}
-use Rattle.fq_cli.specs.declared.words.Asked.{Asked}
-use Rattle.fq_files_run.specs.Judging.{wrong_with}
-use Rattle.fq_files_run.specs.Trimming.{IsNoOutput, TrimsFiles}
-use Rattle.fq_files_run.specs.Leaving.{RefusalLeaves, ReportLeft, HoldFirstPairs, AreLeft, TellsInputs}
-use Rattle.fq_files_run.proofs.EndingLemmas.{done_is_whole, ends_so}
-use Rattle.fq_files_run.proofs.LeavingLemmas.{refusal_untrimmed, report_untrimmed, whole_first}
-use Rattle.fq_files_run.specs.Refusals.{status_of, IsRefusable}
+use Rattle.fq_app_reasons.specs.Lines.{explained, line_of, ending_line, ending_line_when, line_for, report_line, report_memory_line}
+use Rattle.fq_app_words.specs.Requests.{Asking, input_name}
+use Rattle.fq_app_words.specs.Words.{AskedFor, asked_pairs, pairs_asked}
+use Rattle.fq_app_words.specs.declared.words.Asked.{Asked}
+use Rattle.fq_app_files.specs.Judging.{wrong_with}
+use Rattle.fq_app_files.specs.Trimming.{IsNoOutput, TrimsFiles}
+use Rattle.fq_app_files.specs.Leaving.{RefusalLeaves, ReportLeft, HoldFirstPairs, AreLeft, TellsInputs}
+use Rattle.fq_app_files.proofs.EndingLemmas.{done_is_whole, ends_so}
+use Rattle.fq_app_files.proofs.LeavingLemmas.{refusal_untrimmed, report_untrimmed, whole_first}
+use Rattle.fq_app_files.specs.Refusals.{status_of, IsRefusable}
 use Rattle.fq_app.specs.Answers.{Device, EndsWhole, IsRefusal, IsEnding, IsUnprinted, IsUntold, IsUnreported, IsReportLeft, IsReportUncut, LacksMemory, TookMemoryLine, TookText, NamesRefused, NamesDevice, PairsAnswered, Refuses, Tells, TookLine, memory_line, print_line}
-use Rattle.fq_files_run.specs.declared.refusal.Refusal.{Refusal}
-use Rattle.fq_files_run.specs.Seeing.{IsItsError, IsSaid}
-use Rattle.fq_files_run.specs.declared.seeing.EndingSeen.{EndingSeen}
-use Rattle.fq_files_run.specs.declared.reporting.Reported.{Reported}
-use Rattle.fq_files_run.specs.declared.reporting.Reported.TheVariants as report
-use Rattle.fq_files_run.specs.Completing.{HasFailed, ReportFailed}
-use Rattle.fq_files_run.specs.Reporting.{HoldsReport, ReportHeld}
-use Rattle.fq_files_run.specs.declared.refusal.Refusal.TheVariants as why
+use Rattle.fq_app_files.specs.declared.refusal.Refusal.{Refusal}
+use Rattle.fq_app_files.specs.Seeing.{IsItsError, IsSaid}
+use Rattle.fq_app_files.specs.declared.seeing.EndingSeen.{EndingSeen}
+use Rattle.fq_app_files.specs.declared.reporting.Reported.{Reported}
+use Rattle.fq_app_files.specs.declared.reporting.Reported.TheVariants as report
+use Rattle.fq_app_files.specs.Completing.{HasFailed, ReportFailed}
+use Rattle.fq_app_files.specs.Reporting.{HoldsReport, ReportHeld}
+use Rattle.fq_app_files.specs.declared.refusal.Refusal.TheVariants as why
 
 -- what was read of the arguments is what they ask for
 pub asks_this : (words : List Text) (read : Asked) (own a : Asking) →

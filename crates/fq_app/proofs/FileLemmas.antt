@@ -12,16 +12,16 @@ use Rattle.fq_pair.specs.Outputs.{texts_of, text_of}
 use Rattle.fq_run_core.specs.Fates.{block_begun}
 use Rattle.fq_run_core.specs.declared.outcome.Outcome.TheVariants.{Input}
 use Rattle.fq_run_core.specs.Endings.{AreFirst, trimmed_outcome}
-use Rattle.fq_files_run.specs.Faults.{outcome_status}
-use Rattle.fq_in_step.specs.InStep.{IsPairIn, AreInStep}
-use Rattle.fq_files_run.specs.Trimming.{pairs_of}
-use Rattle.fq_files_run.specs.Leaving.{AreLeft, AreUntrimmed}
+use Rattle.fq_app_files.specs.Faults.{outcome_status}
+use Rattle.fq_law_in_step.specs.InStep.{IsPairIn, AreInStep}
+use Rattle.fq_app_files.specs.Trimming.{pairs_of}
+use Rattle.fq_app_files.specs.Leaving.{AreLeft, AreUntrimmed}
 use Rattle.fq_files.specs.Holding.{Holding}
-use Rattle.fq_cli.specs.Requests.{Asking}
+use Rattle.fq_app_words.specs.Requests.{Asking}
 use Rattle.fq_app.specs.Answers.{Device, EndsWhole}
 use Rattle.fq_app.specs.FilesInStep.{FilesAreInStep, FilesAreInStepUpTo}
-use Rattle.fq_in_step.proofs.TextLemmas.{inputs_give_pairs}
-use Rattle.fq_in_step.proofs.InStepLemmas.{texts_are_in_step}
+use Rattle.fq_law_in_step.proofs.TextLemmas.{inputs_give_pairs}
+use Rattle.fq_law_in_step.proofs.InStepLemmas.{texts_are_in_step}
 
 -- what holds of each member of a list holds of each member of its first part
 pub all_first : {X : Type 0} (P : X → Type 0) (xs ys : List X) → All P (xs ++ ys) → All P xs

@@ -15,20 +15,20 @@ use Rattle.fq_run.specs.Outcome.TheVariants.{Lane, Gate}
 use Rattle.clap.specs.Kinds.{Kinds}
 use Rattle.clap.specs.declared.error.kind.ErrorKind.{ErrorKind}
 use Rattle.clap.specs.declared.error.kind.ErrorKind.TheVariants.{DisplayHelp, DisplayVersion}
-use Rattle.fq_files_run.specs.declared.refusal.Refusal.{Refusal}
-use Rattle.fq_cli.specs.Requests.{Asking, input_name}
-use Rattle.fq_files_run.specs.Judging.{wrong_with}
-use Rattle.fq_files_run.specs.Refusals.{status_of, IsRefusable}
-use Rattle.fq_files_run.specs.Faults.{memory_words, settled, outcome_status, outcome_line}
-use Rattle.fq_reasons.specs.Lines.{line_of, ending_line, report_line, report_memory_line}
-use Rattle.fq_files_run.specs.Trimming.{IsNoOutput, TrimsFiles}
-use Rattle.fq_files_run.specs.Leaving.{RefusalLeaves, ReportLeft, HoldFirstPairs, AreLeft, TellsInputs}
-use Rattle.fq_files_run.specs.Completing.{HasFailed, ReportFailed}
-use Rattle.fq_files_run.specs.Reporting.{HoldsReport, BeginsReport}
-use Rattle.fq_files_run.specs.Seeing.{IsItsError, IsSaid}
-use Rattle.fq_files_run.specs.declared.seeing.EndingSeen.{EndingSeen}
-use Rattle.fq_files_run.specs.declared.reporting.Reported.{Reported}
-use Rattle.fq_files_run.specs.declared.reporting.Reported.TheVariants as report
+use Rattle.fq_app_files.specs.declared.refusal.Refusal.{Refusal}
+use Rattle.fq_app_words.specs.Requests.{Asking, input_name}
+use Rattle.fq_app_files.specs.Judging.{wrong_with}
+use Rattle.fq_app_files.specs.Refusals.{status_of, IsRefusable}
+use Rattle.fq_app_files.specs.Faults.{memory_words, settled, outcome_status, outcome_line}
+use Rattle.fq_app_reasons.specs.Lines.{line_of, ending_line, report_line, report_memory_line}
+use Rattle.fq_app_files.specs.Trimming.{IsNoOutput, TrimsFiles}
+use Rattle.fq_app_files.specs.Leaving.{RefusalLeaves, ReportLeft, HoldFirstPairs, AreLeft, TellsInputs}
+use Rattle.fq_app_files.specs.Completing.{HasFailed, ReportFailed}
+use Rattle.fq_app_files.specs.Reporting.{HoldsReport, BeginsReport}
+use Rattle.fq_app_files.specs.Seeing.{IsItsError, IsSaid}
+use Rattle.fq_app_files.specs.declared.seeing.EndingSeen.{EndingSeen}
+use Rattle.fq_app_files.specs.declared.reporting.Reported.{Reported}
+use Rattle.fq_app_files.specs.declared.reporting.Reported.TheVariants as report
 
 -- A device in a call: whether its bytes are known to the proof, those that it had taken before the
 -- call and has taken after it, and how often it has failed.
@@ -211,8 +211,8 @@ pub record NamesRefused (a : Asking) (old : FilesState) (err : Device) : Type 0 
   pub inputs : IsTrue old.tells → TellsInputs a.inputs why old
   pub refused : IsRefusable a (MayRefuse old) why
 
--- a device of that name has failed, and may say the error that is told, or the input of that side is
--- endless
+-- a device of that name has failed, and may say the error that is told, or the input of that side
+-- is endless
 pub record NamesFailed (a : Asking) (old new : FilesState) (err : Device) : Type 0 where
   pub outcome : Outcome
   pub seen : EndingSeen

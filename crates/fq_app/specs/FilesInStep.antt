@@ -9,11 +9,11 @@ use Rattle.fq_pair.specs.Summaries.{summary_of}
 use Rattle.fq_run_core.specs.Choices.{Choices}
 use Rattle.fq_run_core.specs.Endings.{AreFirst}
 use Rattle.fq_run_core.specs.Fates.{Fate, part_begun}
-use Rattle.fq_cli.specs.Requests.{Asking}
-use Rattle.fq_files_run.specs.Judging.{settings_of}
-use Rattle.fq_files_run.specs.Trimming.{HasOwnName, pairs_of}
+use Rattle.fq_app_words.specs.Requests.{Asking}
+use Rattle.fq_app_files.specs.Judging.{settings_of}
+use Rattle.fq_app_files.specs.Trimming.{HasOwnName, pairs_of}
 use Rattle.fq_app.specs.Answers.{Device, TookPart}
-use Rattle.fq_in_step.specs.InStep.{AreInStep}
+use Rattle.fq_law_in_step.specs.InStep.{AreInStep}
 
 -- the files of the outputs that have a name of their own hold these texts
 abbrev pub HoldTexts : Asking → Holding → (Out → List ℕ) → Type 0

@@ -1,17 +1,17 @@
 //! The program, apart from where its arguments and files come from and where its texts go.
 
 ghost use Rattle.std.specs.Prelude.{◌≡◌, ◌≢◌, ◌⊎◌, ◌++◌, Some, None, [], IsSome, IsTrue, map};
-ghost use Rattle.fq_cli.specs.Requests.{Asking, asking_of};
-ghost use Rattle.fq_files_run.specs.Judging.{wrong_with};
-ghost use Rattle.fq_files_run.specs.Trimming.{KeepsUnnamed};
-ghost use Rattle.fq_files_run.specs.Leaving.{AreUntrimmed};
-ghost use Rattle.fq_files_run.specs.Opening.{SparesInputs};
-ghost use Rattle.fq_cli.specs.Words.{AskedFor, words_fault};
+ghost use Rattle.fq_app_words.specs.Requests.{Asking, asking_of};
+ghost use Rattle.fq_app_files.specs.Judging.{wrong_with};
+ghost use Rattle.fq_app_files.specs.Trimming.{KeepsUnnamed};
+ghost use Rattle.fq_app_files.specs.Leaving.{AreUntrimmed};
+ghost use Rattle.fq_app_files.specs.Opening.{SparesInputs};
+ghost use Rattle.fq_app_words.specs.Words.{AskedFor, words_fault};
 ghost use Rattle.fq_app.specs.Answers.{device_of, TookText, TookPart, TookLines, TookReportLine, LacksMemory, TookMemoryLine, LacksPrint, IsUnshown, Refuses, Tells, NamesDevice, PairsAnswered, AreRefused, IsCall, AreCalls, print_line};
 ghost use Rattle.fq_app.specs.Example.{example_text};
 ghost use Rattle.fq_app.specs.FilesInStep.{FilesAreInStep, FilesAreInStepUpTo};
-ghost use Rattle.fq_files_run.specs.Faults.{outcome_status};
-ghost use Rattle.fq_reasons.specs.Lines.{ending_line};
+ghost use Rattle.fq_app_files.specs.Faults.{outcome_status};
+ghost use Rattle.fq_app_reasons.specs.Lines.{ending_line};
 ghost use Rattle.fq_pair.specs.Summaries.{summary_of};
 ghost use Rattle.clap.specs.Words.{kind_of};
 ghost use Rattle.clap.specs.declared.error.kind.ErrorKind.TheVariants.{DisplayHelp, DisplayVersion, OutOfMemory};
@@ -24,9 +24,9 @@ use crate::trimming::{Completed, trim_files};
 use crate::usage::usage_lines;
 use clap::Error;
 use clap::error::ErrorKind;
-use fq_cli::{Asked, Request, read_words};
+use fq_app_files::{EndingSeen, Refusal, Reported};
+use fq_app_words::{Asked, Request, read_words};
 use fq_files::Files;
-use fq_files_run::{EndingSeen, Refusal, Reported};
 use fq_text::{MemoryRefused, Outlet, Seen, send};
 use std::alloc::{AllocError, Global};
 use std::sync::Wait;

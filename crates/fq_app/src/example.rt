@@ -7,13 +7,13 @@ ghost use Rattle.fq_pair.specs.Summaries.{summary_of};
 ghost use Rattle.fq_run.specs.Devices.{outlet_states, AreHealthy};
 ghost use Rattle.fq_run.specs.Endings.{ends_whole};
 ghost use Rattle.fq_app.specs.Example.{AreEmpty, example_choices, example_text, sections};
-ghost use Rattle.fq_files_run.specs.Faults.{outcome_status};
-ghost use Rattle.fq_files_run.specs.Trimming.{pairs_of, TrimsPairs};
-ghost use Rattle.fq_files_run.specs.declared.account.Account.{Account};
+ghost use Rattle.fq_app_files.specs.Faults.{outcome_status};
+ghost use Rattle.fq_app_files.specs.Trimming.{pairs_of, TrimsPairs};
+ghost use Rattle.fq_app_files.specs.declared.account.Account.{Account};
 ghost use Rattle.fq_app.specs.declared.example_failed.ExampleFailed.TheVariants.{Unrun};
 
 use crate::example_failed::ExampleFailed;
-use fq_files_run::Account;
+use fq_app_files::Account;
 use fq_pair::{Counts, summary};
 use fq_run::{CALL_LIMIT, Ending, Outcome, Outlets, Settings, run_threads};
 use fq_text::{Encoding, Feed, MemoryRefused, OutOfMemory, Outlet, ScriptFeed, ScriptOutlet};

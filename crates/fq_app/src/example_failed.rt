@@ -1,6 +1,6 @@
 //! Why the example is not shown.
 
-use fq_files_run::Account;
+use fq_app_files::Account;
 use fq_text::MemoryRefused;
 
 /// Why the example is not shown.

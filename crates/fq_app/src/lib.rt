@@ -2,7 +2,7 @@
 //! [`program`] takes the arguments of a call, writes files and output, and returns an exit status.
 //!
 //! This is an inner layer of the program `fq_prog`, whose crate passes it the system's arguments,
-//! files and outputs. `fq_rows` passes it others, in memory.
+//! files and outputs. `fq_test_rows` passes it others, in memory.
 #![tactic(auto)]
 
 mod answering;

@@ -3,14 +3,14 @@
 ghost use Rattle.std.specs.Prelude.{◌≡◌, ◌++◌, [], IfOk, codes, decimal, unwrap_or};
 ghost use Rattle.fq_text.specs.Written.{line};
 ghost use Rattle.std.specs.String.{string_bytes};
-ghost use Rattle.fq_cli.specs.Requests.{asking_of, output_name};
-ghost use Rattle.fq_files_run.specs.Refusals.{status_of, words_of, step_fault_name, setting_name};
-ghost use Rattle.fq_reasons.specs.Lines.{line_of};
+ghost use Rattle.fq_app_words.specs.Requests.{asking_of, output_name};
+ghost use Rattle.fq_app_files.specs.Refusals.{status_of, words_of, step_fault_name, setting_name};
+ghost use Rattle.fq_app_reasons.specs.Lines.{line_of};
 
-use fq_cli::Request;
-use fq_files_run::{MEMORY_LINE, Refusal};
+use fq_app_files::{MEMORY_LINE, Refusal};
+use fq_app_reasons::explained_refusal;
+use fq_app_words::Request;
 use fq_pair::Out;
-use fq_reasons::explained_refusal;
 use fq_run::BadSetting;
 use fq_text::OutOfMemory;
 use fq_trim::StepFaultKind;

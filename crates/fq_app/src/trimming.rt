@@ -4,22 +4,22 @@ ghost use Rattle.std.specs.Prelude.{◌≡◌, ◌≢◌, Some, None, Ok, Err, I
 ghost use Rattle.std.specs.Option.{option_map};
 ghost use Rattle.fq_run.specs.Devices.{outlet_states, AreHealthy};
 ghost use Rattle.fq_run.specs.Endings.{ends_whole, AreTold, IsTrimmed, EveryEnding};
-ghost use Rattle.fq_files_run.specs.declared.refusal.Refusal.{Refusal as Refused};
-ghost use Rattle.fq_files_run.specs.Refusals.{status_of};
-ghost use Rattle.fq_cli.specs.Requests.{asking_of, input_name};
-ghost use Rattle.fq_files_run.specs.Judging.{settings_of, wrong_with};
-ghost use Rattle.fq_files_run.specs.Trimming.{KeepsUnnamed, opened_of, left_of, form_of, run_in, AreFresh};
-ghost use Rattle.fq_files_run.specs.Opening.{AreReady, AreOpened, IsRefused, SparesInputs};
-ghost use Rattle.fq_files_run.specs.Completing.{IsCompleted, IsWitnessed};
+ghost use Rattle.fq_app_files.specs.declared.refusal.Refusal.{Refusal as Refused};
+ghost use Rattle.fq_app_files.specs.Refusals.{status_of};
+ghost use Rattle.fq_app_words.specs.Requests.{asking_of, input_name};
+ghost use Rattle.fq_app_files.specs.Judging.{settings_of, wrong_with};
+ghost use Rattle.fq_app_files.specs.Trimming.{KeepsUnnamed, opened_of, left_of, form_of, run_in, AreFresh};
+ghost use Rattle.fq_app_files.specs.Opening.{AreReady, AreOpened, IsRefused, SparesInputs};
+ghost use Rattle.fq_app_files.specs.Completing.{IsCompleted, IsWitnessed};
 ghost use Rattle.fq_files.specs.Holding.{IsUnchanged};
 ghost use Rattle.fq_files.specs.States.{FilesState, IsSound, MaySay, OnlyStores};
 
-use fq_cli::Request;
-use fq_files::Files;
-use fq_files_run::{
+use fq_app_files::{
     Account, Devices, EndingSeen, Feeds, Refusal, Reported, inputs_done, judge, open, seen_of,
     store, store_report,
 };
+use fq_app_words::Request;
+use fq_files::Files;
 use fq_pair::{Side, UnmatchedNames};
 use fq_run::{Outcome, Outlets, Settings, run_threads, run_threads_mixed};
 use fq_text::{Feed, MemoryRefused, OutOfMemory, Outlet, SystemError};

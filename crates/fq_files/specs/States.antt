@@ -44,9 +44,9 @@ abbrev pub MayRefuse : FilesState → List ℕ → Cause → Type 0
 MayRefuse files name cause = IsTrue (files.refuses name cause)
     ⊎ ((cause ≡ Input) × IsTrue (files.is_open name))
 
--- This name may be refused as an input for this cause: there is no such file, and the system may say
--- so by this error; or it is an input already, of which this holds. If the bytes of the files are
--- known, it is no output yet.
+-- This name may be refused as an input for this cause: there is no such file, and the system may
+-- say so by this error; or it is an input already, of which this holds. If the bytes of the files
+-- are known, it is no output yet.
 pub record MayRefuseInput (files : FilesState) (IsInput : Type 0)
     (name : List ℕ) (cause : Cause) : Type 0 where
   pub missing : (error : SystemError) → cause ≡ System error →

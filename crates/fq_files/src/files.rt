@@ -49,8 +49,8 @@ impl From<OutOfMemory> for FileFault {
 /// only if the bytes are known. No call changes another name's bytes, or removes a name.
 ///
 /// The contracts also say which names may be refused, which lead to an input, for which names a
-/// device has failed, which errors it may then say, and for which a target was not flushed. A device
-/// is a feed or an outlet; its failures are known once it is handed back, by
+/// device has failed, which errors it may then say, and for which a target was not flushed. A
+/// device is a feed or an outlet; its failures are known once it is handed back, by
 /// [`source_done`](Files::source_done) or [`done`](Files::done).
 pub trait Files {
     /// The feed that a file is read from.

@@ -1,5 +1,5 @@
 //! Each move of an end wakes the other. These tests look at what both ends sleep on, which is
-//! private; all other tests are in `fq_lane_tests`.
+//! private; all other tests are in `fq_test_lane`.
 
 ghost use Rattle.std.specs.Prelude.{◌<◌};
 

@@ -5,12 +5,12 @@
 ghost use Rattle.std.specs.Prelude.{◌≡◌, ◌≢◌, ◌⊎◌, ◌++◌, Some, None, [], IsSome, IsTrue, map, IfOk};
 ghost use Rattle.std.specs.Process.{exit_status};
 ghost use Rattle.std.specs.String.{string_bytes};
-ghost use Rattle.fq_cli.specs.Requests.{Asking};
-ghost use Rattle.fq_cli.specs.Words.{AskedFor, words_fault};
-ghost use Rattle.fq_files_run.specs.Judging.{wrong_with};
-ghost use Rattle.fq_files_run.specs.Trimming.{KeepsUnnamed};
-ghost use Rattle.fq_files_run.specs.Leaving.{AreUntrimmed};
-ghost use Rattle.fq_files_run.specs.Opening.{SparesInputs};
+ghost use Rattle.fq_app_words.specs.Requests.{Asking};
+ghost use Rattle.fq_app_words.specs.Words.{AskedFor, words_fault};
+ghost use Rattle.fq_app_files.specs.Judging.{wrong_with};
+ghost use Rattle.fq_app_files.specs.Trimming.{KeepsUnnamed};
+ghost use Rattle.fq_app_files.specs.Leaving.{AreUntrimmed};
+ghost use Rattle.fq_app_files.specs.Opening.{SparesInputs};
 ghost use Rattle.fq_app.specs.Answers.{device_of, TookText, TookLines, LacksMemory, TookMemoryLine, LacksPrint, IsUnshown, NamesDevice, PairsAnswered, AreRefused, AreCalls, print_line};
 ghost use Rattle.fq_app.specs.Example.{example_text};
 ghost use Rattle.fq_app.specs.FilesInStep.{FilesAreInStep, FilesAreInStepUpTo};

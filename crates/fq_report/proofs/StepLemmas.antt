@@ -3,7 +3,7 @@ use Rattle.std.proofs.Common.{◌≡◌, ◌<◌, ◌≤◌, ℕ, ◌+◌, List,
 use Rattle.std.proofs.lemmas.List.{map-append, append-nil, drop_all}
 use Rattle.serde_json.specs.declared.value.Value.{Value}
 use Rattle.serde_json.specs.View.{view}
-use Rattle.fq_tally.specs.declared.tally.Tally.{Tally}
+use Rattle.fq_report_pairs.specs.declared.tally.Tally.{Tally}
 use Rattle.fq_report.specs.Reports.{step_value, steps_from}
 
 -- one step on

@@ -4,7 +4,7 @@ use Rattle.std.specs.Option.{option_map}
 use Rattle.fq_text.specs.declared.encoding.Encoding.{Encoding}
 use Rattle.fq_pair.specs.declared.counts.Counts.{Counts}
 use Rattle.fq_pair.specs.Inputs.{InputNames, names_of}
-use Rattle.fq_tally.specs.declared.tally.Tally.{Tally}
+use Rattle.fq_report_pairs.specs.declared.tally.Tally.{Tally}
 use Rattle.fq_report.specs.declared.report.Report.{Report}
 
 pub record Facts : Type 0 where

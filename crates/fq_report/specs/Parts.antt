@@ -1,9 +1,9 @@
 -- The values that parts of a report are built from.
 use Rattle.std.specs.Prelude.{◌≡◌}
 use Rattle.serde_json.specs.View.{view}
-use Rattle.fq_read_tally.specs.declared.columns.Columns.{Columns}
-use Rattle.fq_read_tally.specs.declared.reads.ReadsTally.{ReadsTally}
-use Rattle.fq_read_tally.specs.declared.side.SideTally.{SideTally}
+use Rattle.fq_report_reads.specs.declared.columns.Columns.{Columns}
+use Rattle.fq_report_reads.specs.declared.reads.ReadsTally.{ReadsTally}
+use Rattle.fq_report_reads.specs.declared.side.SideTally.{SideTally}
 use Rattle.fq_report.specs.declared.counted.ReadsParts.{ReadsParts}
 use Rattle.fq_report.specs.declared.counted.SideParts.{SideParts}
 use Rattle.fq_report.specs.declared.report.Parts.{Parts}

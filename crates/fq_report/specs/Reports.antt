@@ -7,11 +7,11 @@ use Rattle.fq_text.specs.Written.{line}
 use Rattle.fq_pair.specs.declared.counts.Counts.{Counts}
 use Rattle.fq_pair.specs.Forms.{Form, TwoTexts, InterleavedText}
 use Rattle.fq_pair.specs.Inputs.{InputNames}
-use Rattle.fq_read_tally.specs.declared.columns.Columns.{Columns}
-use Rattle.fq_read_tally.specs.declared.reads.ReadsTally.{ReadsTally}
-use Rattle.fq_read_tally.specs.declared.steps.StepsTally.{StepsTally}
-use Rattle.fq_read_tally.specs.declared.side.SideTally.{SideTally}
-use Rattle.fq_tally.specs.declared.tally.Tally.{Tally}
+use Rattle.fq_report_reads.specs.declared.columns.Columns.{Columns}
+use Rattle.fq_report_reads.specs.declared.reads.ReadsTally.{ReadsTally}
+use Rattle.fq_report_reads.specs.declared.steps.StepsTally.{StepsTally}
+use Rattle.fq_report_reads.specs.declared.side.SideTally.{SideTally}
+use Rattle.fq_report_pairs.specs.declared.tally.Tally.{Tally}
 use Rattle.serde_json.specs.Data.{Data, null, boolean, string}
 use Rattle.serde_json.specs.Written.{compact_text}
 use Rattle.fq_report.specs.Values.{count, optional_text, list, fields}

@@ -10,7 +10,7 @@ ghost use Rattle.fq_report.specs.Reports.{done_value, step_value, steps_from};
 ghost use Rattle.fq_report.specs.Parts.{AreReadsParts, AreSideParts};
 
 use fq_pair::Counts;
-use fq_tally::{Columns, ReadsTally, Rows, SideTally, StepsTally, Tally};
+use fq_report_pairs::{Columns, ReadsTally, Rows, SideTally, StepsTally, Tally};
 use fq_text::OutOfMemory;
 use serde_json::{Value, json};
 use std::alloc::Global;

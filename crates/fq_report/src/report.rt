@@ -12,7 +12,7 @@ ghost use Rattle.fq_report.specs.Parts.{ArePartsOf};
 
 use crate::counted::{pairs_value, sides_value, steps_value};
 use fq_pair::{Counts, Inputs};
-use fq_tally::Tally;
+use fq_report_pairs::Tally;
 use fq_text::{Encoding, OutOfMemory};
 use serde_json::{Value, json};
 use std::alloc::Global;

@@ -26,7 +26,7 @@ use Rattle.fq_run.specs.Threads.{IsFresh, tallies_from, Concludes, run_from, IsT
 use Rattle.fq_pair.specs.Walks.{SourceState}
 use Rattle.fq_run_core.specs.PairsRead.{feed_in}
 use Rattle.fq_run_core.specs.Writing.{no_halt, Runs, FlushesAfter}
-use Rattle.fq_tally.specs.Results.{tally_if}
+use Rattle.fq_report_pairs.specs.Results.{tally_if}
 use Rattle.fq_work.specs.Work.{pairs_of}
 use Rattle.fq_run.proofs.MatchLemmas.{Matched}
 use Rattle.fq_run.proofs.StartLemmas.{of_one}

@@ -31,7 +31,7 @@ use Rattle.fq_run_core.proofs.PassLemmas.{runs_refused}
 use Rattle.fq_run_core.proofs.RunLemmas.{run_every}
 use Rattle.fq_run_core.specs.declared.reading_end.ReadingEnd.TheVariants as reading
 use Rattle.fq_run_core.specs.Writing.{FlushesAfter, no_halt}
-use Rattle.fq_tally.specs.Results.{tally_if}
+use Rattle.fq_report_pairs.specs.Results.{tally_if}
 use Rattle.fq_run_core.specs.declared.total.Total.{Total}
 use Rattle.fq_run_core.proofs.TotalLemmas.{none_at}
 use Rattle.fq_run_core.specs.Totals.{no_total, ended}

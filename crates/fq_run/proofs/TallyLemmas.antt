@@ -5,12 +5,12 @@ use Rattle.fq_trim.specs.declared.step.Step.{Step}
 use Rattle.fq_lane.specs.History.{History, Name}
 use Rattle.fq_lane.specs.declared.tx.NotEnded.{NotEnded}
 use Rattle.fq_block.specs.Blocks.{Numbered}
-use Rattle.fq_read_tally.specs.Courses.{alone}
-use Rattle.fq_tally.specs.declared.done.Done.{Done}
-use Rattle.fq_tally.specs.declared.tally.Tally.{Tally}
-use Rattle.fq_tally.specs.Tallies.{no_tally, tally_of, plus}
-use Rattle.fq_tally.specs.Results.{tally_if}
-use Rattle.fq_tally.proofs.PlusLaws.{tally_of-append, plus_comm, plus_assoc}
+use Rattle.fq_report_reads.specs.Courses.{alone}
+use Rattle.fq_report_pairs.specs.declared.done.Done.{Done}
+use Rattle.fq_report_pairs.specs.declared.tally.Tally.{Tally}
+use Rattle.fq_report_pairs.specs.Tallies.{no_tally, tally_of, plus}
+use Rattle.fq_report_pairs.specs.Results.{tally_if}
+use Rattle.fq_report_pairs.proofs.PlusLaws.{tally_of-append, plus_comm, plus_assoc}
 use Rattle.fq_work.specs.Replies.{Answers}
 use Rattle.fq_work.specs.Work.{pairs_of}
 use Rattle.fq_work.specs.declared.ends.Worked.{Worked}

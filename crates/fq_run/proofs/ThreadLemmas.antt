@@ -13,8 +13,8 @@ use Rattle.fq_block.specs.Blocks.{Numbered}
 use Rattle.fq_work.specs.Replies.{done_of}
 use Rattle.fq_work.specs.Work.{pairs_of}
 use Rattle.fq_work.proofs.WorkLemmas.{pairs_of-append}
-use Rattle.fq_tally.specs.Results.{tally_if}
-use Rattle.fq_tally.specs.declared.done.Done.{Done}
+use Rattle.fq_report_pairs.specs.Results.{tally_if}
+use Rattle.fq_report_pairs.specs.declared.done.Done.{Done}
 use Rattle.fq_work.specs.declared.reply.Cause.{Cause}
 use Rattle.fq_work.specs.declared.reply.Cause.TheVariants as cause
 use Rattle.fq_work.specs.declared.reply.Reply.TheVariants.{Done as done, Stop}

@@ -11,7 +11,7 @@ use Rattle.fq_pair.specs.declared.out.Out.{Out}
 use Rattle.fq_work.specs.declared.ends.WorkEnds.{WorkEnds}
 use Rattle.fq_work.specs.declared.ends.Worked.{Worked}
 use Rattle.fq_work.specs.declared.reply.Reply.{Reply}
-use Rattle.fq_tally.specs.declared.tally.Tally.{Tally}
+use Rattle.fq_report_pairs.specs.declared.tally.Tally.{Tally}
 use Rattle.fq_run_core.specs.Totals.{tally_plus, ended}
 use Rattle.fq_run_core.specs.Choices.{Choices}
 use Rattle.fq_run.specs.lanes.Laying.{fresh, Laid, IsLaid, AreFor}

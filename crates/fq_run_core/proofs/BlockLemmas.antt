@@ -5,8 +5,8 @@ use Rattle.fq_pair.specs.declared.out.Out.{Out}
 use Rattle.fq_pair.specs.Mates.{Mates}
 use Rattle.fq_pair.specs.Summaries.{capped}
 use Rattle.fq_pair.specs.Outputs.{Outputs, texts_of, text_of}
-use Rattle.fq_tally.specs.declared.done.Done.{Done}
-use Rattle.fq_tally.specs.declared.tally.Tally.{Tally}
+use Rattle.fq_report_pairs.specs.declared.done.Done.{Done}
+use Rattle.fq_report_pairs.specs.declared.tally.Tally.{Tally}
 use Rattle.fq_run_core.specs.declared.total.Total.{Total}
 use Rattle.fq_run_core.specs.Totals.{total_of, no_total}
 use Rattle.fq_run_core.specs.declared.reading_end.ReadingEnd.{ReadingEnd}

@@ -18,7 +18,7 @@ use Rattle.fq_pair.specs.PairSources.{is_cut, is_cut_short, if_cut}
 use Rattle.fq_pair.specs.Outputs.{texts_of, text_of, counts_of}
 use Rattle.fq_run_core.specs.declared.outcome.Outcome.{Outcome}
 use Rattle.fq_run_core.specs.declared.outcome.Outcome.TheVariants as outcome
-use Rattle.fq_tally.specs.Results.{tally_if}
+use Rattle.fq_report_pairs.specs.Results.{tally_if}
 use Rattle.fq_run_core.specs.declared.halt.Halt.{Halt}
 use Rattle.fq_run_core.specs.declared.total.Total.{Total}
 use Rattle.fq_run_core.specs.declared.reading_end.ReadingEnd.{ReadingEnd}

@@ -8,10 +8,10 @@ use Rattle.fq_pair.specs.declared.fault.InputFault.{InputFault}
 use Rattle.fq_text.specs.Grammar.{Read}
 use Rattle.fq_pair.specs.Mates.{Mates, mates_in}
 use Rattle.fq_pair.specs.Outputs.{texts_of}
-use Rattle.fq_tally.specs.declared.tally.Tally.{Tally}
-use Rattle.fq_tally.specs.declared.done.Done.{Done}
-use Rattle.fq_tally.specs.Results.{tally_with, made_of, with_mates}
-use Rattle.fq_tally.proofs.ResultLemmas.{made_more, with_nothing, with_more}
+use Rattle.fq_report_pairs.specs.declared.tally.Tally.{Tally}
+use Rattle.fq_report_pairs.specs.declared.done.Done.{Done}
+use Rattle.fq_report_pairs.specs.Results.{tally_with, made_of, with_mates}
+use Rattle.fq_report_pairs.proofs.ResultLemmas.{made_more, with_nothing, with_more}
 use Rattle.fq_run_core.specs.declared.reading_end.ReadingEnd.{ReadingEnd}
 use Rattle.fq_run_core.specs.declared.reading_end.ReadingEnd.TheVariants as reading
 use Rattle.fq_pair.specs.Walks.{SourceState, Walks, MeetsEnd, MeetsFault, GoesOn}

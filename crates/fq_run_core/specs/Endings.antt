@@ -13,8 +13,8 @@ use Rattle.fq_pair.specs.Pairing.{Pairs}
 use Rattle.fq_pair.specs.Interleaved.{side_after}
 use Rattle.fq_pair.specs.Forms.{Form, TwoTexts, InterleavedText, pairs_in}
 use Rattle.fq_pair.specs.Outputs.{texts_of, text_of, counts_of}
-use Rattle.fq_tally.specs.declared.tally.Tally.{Tally}
-use Rattle.fq_tally.specs.Results.{tally_if}
+use Rattle.fq_report_pairs.specs.declared.tally.Tally.{Tally}
+use Rattle.fq_report_pairs.specs.Results.{tally_if}
 use Rattle.fq_run_core.specs.declared.outcome.Outcome.{Outcome}
 use Rattle.fq_run_core.specs.declared.outcome.Outcome.TheVariants as outcome
 use Rattle.fq_run_core.specs.declared.ending.Ending.{Ending}

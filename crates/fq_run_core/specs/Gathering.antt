@@ -4,9 +4,9 @@ use Rattle.fq_trim.specs.declared.step.Step.{Step}
 use Rattle.fq_pair.specs.Mates.{Mates}
 use Rattle.fq_pair.specs.Outputs.{texts_of}
 use Rattle.fq_pair.specs.Walks.{SourceState, GoesOn}
-use Rattle.fq_tally.specs.declared.done.Done.{Done}
-use Rattle.fq_tally.specs.declared.tally.Tally.{Tally}
-use Rattle.fq_tally.specs.Results.{tally_with}
+use Rattle.fq_report_pairs.specs.declared.done.Done.{Done}
+use Rattle.fq_report_pairs.specs.declared.tally.Tally.{Tally}
+use Rattle.fq_report_pairs.specs.Results.{tally_with}
 use Rattle.fq_run_core.specs.PairsRead.{Reads}
 use Rattle.fq_run_core.specs.declared.reading_end.ReadingEnd.{ReadingEnd}
 

@@ -4,7 +4,7 @@ use Rattle.fq_pair.specs.declared.out.Out.{Out}
 use Rattle.fq_pair.specs.declared.fault.InputFault.{InputFault}
 use Rattle.fq_pair.specs.Mates.{Mates}
 use Rattle.fq_pair.specs.Outputs.{texts_of, text_of, counts_of}
-use Rattle.fq_tally.specs.Results.{tally_if}
+use Rattle.fq_report_pairs.specs.Results.{tally_if}
 use Rattle.fq_run_core.specs.declared.halt.Halt.{Halt}
 use Rattle.fq_run_core.specs.declared.occurred.Occurred.{Occurred}
 use Rattle.fq_run_core.specs.declared.total.Total.{Total}

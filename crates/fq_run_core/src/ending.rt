@@ -6,7 +6,7 @@ ghost use Rattle.fq_run_core.specs.Outcomes.{is_unmatched};
 use crate::outcome::Outcome;
 use fq_lane::NotEnded;
 use fq_pair::{Counts, InputFault, UnmatchedNames};
-use fq_tally::Tally;
+use fq_report_pairs::Tally;
 use fq_text::MemoryRefused;
 
 /// How a run over two inputs ended, and what it returns.

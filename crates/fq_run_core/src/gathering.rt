@@ -2,12 +2,12 @@
 
 ghost use Rattle.std.specs.Prelude.{◌≡◌, ◌≤◌, []};
 ghost use Rattle.fq_pair.specs.Walks.{GoesOn};
-ghost use Rattle.fq_tally.specs.Results.{made_of};
+ghost use Rattle.fq_report_pairs.specs.Results.{made_of};
 ghost use Rattle.fq_run_core.specs.Gathering.{Gathers};
 
 use crate::reading_end::ReadingEnd;
 use fq_pair::PairReader;
-use fq_tally::{Done, Tally};
+use fq_report_pairs::{Done, Tally};
 use fq_trim::Steps;
 
 /// Reads and trims the next pairs, up to `most`, adds their texts to `done`, and counts them if

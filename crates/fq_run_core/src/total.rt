@@ -2,7 +2,7 @@
 
 use crate::outcome::Outcome;
 use fq_pair::Counts;
-use fq_tally::{Done, Tally};
+use fq_report_pairs::{Done, Tally};
 use fq_text::OutOfMemory;
 use std::alloc::Global;
 

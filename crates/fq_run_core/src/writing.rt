@@ -17,7 +17,7 @@ use crate::settings::Settings;
 use crate::total::Total;
 use crate::written::Written;
 use fq_pair::{Out, PairReader};
-use fq_tally::Done;
+use fq_report_pairs::Done;
 use fq_text::Outlet;
 use fq_trim::Steps;
 use std::alloc::Global;

@@ -5,10 +5,10 @@ use Rattle.fq_trim.specs.declared.step.Step.{Step}
 use Rattle.fq_lane.specs.History.{History, with_item, with_mark}
 use Rattle.fq_block.specs.Blocks.{Numbered}
 use Rattle.fq_pair.specs.Mates.{Mates}
-use Rattle.fq_tally.specs.declared.done.Done.{Done}
-use Rattle.fq_tally.specs.declared.tally.Tally.{Tally}
-use Rattle.fq_tally.specs.Results.{tally_with}
-use Rattle.fq_tally.proofs.ResultLemmas.{with_more as with_others}
+use Rattle.fq_report_pairs.specs.declared.done.Done.{Done}
+use Rattle.fq_report_pairs.specs.declared.tally.Tally.{Tally}
+use Rattle.fq_report_pairs.specs.Results.{tally_with}
+use Rattle.fq_report_pairs.proofs.ResultLemmas.{with_more as with_others}
 use Rattle.fq_work.specs.declared.reply.Cause.{Cause}
 use Rattle.fq_work.specs.declared.reply.Reply.{Reply}
 use Rattle.fq_work.specs.declared.reply.Reply.TheVariants.{Done as done, Stop}

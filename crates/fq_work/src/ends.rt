@@ -3,7 +3,7 @@
 use crate::reply::{Cause, Reply};
 use fq_block::Block;
 use fq_lane::{End, NotEnded, Rx, Tx};
-use fq_tally::{Done, Tally};
+use fq_report_pairs::{Done, Tally};
 
 /// The worker's ends of its four lanes, and its tally.
 ///

@@ -15,7 +15,7 @@ mod trimming;
 mod worker;
 
 pub use ends::{WorkEnds, Worked};
-pub use fq_tally::Done;
+pub use fq_report_pairs::Done;
 pub use gate::{Gate, OpenGate};
 pub use reply::{Cause, Reply};
 pub use trimming::work_block;

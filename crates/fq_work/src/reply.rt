@@ -1,6 +1,6 @@
 //! What a worker replies.
 
-use fq_tally::Done;
+use fq_report_pairs::Done;
 use fq_text::MemoryRefused;
 
 /// Why a worker stopped.

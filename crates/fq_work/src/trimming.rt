@@ -1,11 +1,11 @@
 //! The work on one block.
 
 ghost use Rattle.std.specs.Prelude.{◌≡◌, [], OnOk, OnErr};
-ghost use Rattle.fq_tally.specs.Results.{made_of, tally_with};
+ghost use Rattle.fq_report_pairs.specs.Results.{made_of, tally_with};
 ghost use Rattle.fq_work.specs.Replies.{done_of};
 
 use fq_block::Block;
-use fq_tally::{Done, Tally};
+use fq_report_pairs::{Done, Tally};
 use fq_text::OutOfMemory;
 use fq_trim::Steps;
 

@@ -3,7 +3,7 @@
 ghost use Rattle.std.specs.Prelude.{◌≡◌, ◌⊎◌, Some, None, Err, false, IsTrue, OnOk};
 ghost use Rattle.std.specs.Arc.{arc_value};
 ghost use Rattle.fq_lane.specs.History.{with_item};
-ghost use Rattle.fq_tally.specs.Results.{tally_with};
+ghost use Rattle.fq_report_pairs.specs.Results.{tally_with};
 ghost use Rattle.fq_work.specs.Replies.{done_of, reply_to};
 ghost use Rattle.fq_work.specs.Work.{IsWork, MayShut, HasAnswered, HasDrained};
 
@@ -13,7 +13,7 @@ use crate::reply::{Cause, Reply};
 use crate::trimming::work_block;
 use fq_block::Block;
 use fq_lane::{Rx, Taken, Tx};
-use fq_tally::{Done, Tally};
+use fq_report_pairs::{Done, Tally};
 use fq_text::MemoryRefused;
 use fq_trim::Steps;
 use std::alloc::Global;

@@ -1,7 +1,7 @@
 use Rattle.std.proofs.Common.{◌≡◌, ◌⊎◌, ◌∙◌, ℕ, Some, inl, inr, ⊎_elim, refl, ap, sym, subst, map, arith}
 use Rattle.std.specs.Process.{exit_status}
 use Rattle.std.specs.String.{string_bytes}
-use Rattle.fq_cli.specs.Words.{AskedFor}
+use Rattle.fq_app_words.specs.Words.{AskedFor}
 use Rattle.fq_app.specs.Answers.{device_of, PairsAnswered, memory_line}
 use Rattle.fq_app.specs.FilesInStep.{FilesAreInStep}
 use Rattle.fq_prog.proofs.run.Goals as goal

@@ -9,7 +9,7 @@ use Rattle.fq_pair.specs.declared.out.Out.{Out}
 use Rattle.fq_run_core.specs.declared.total.Total.{Total}
 use Rattle.fq_run_core.specs.Totals.{no_total, total_plus}
 use Rattle.fq_pair.specs.Outputs.{text_of}
-use Rattle.fq_tally.specs.declared.done.Done.{Done}
+use Rattle.fq_report_pairs.specs.declared.done.Done.{Done}
 use Rattle.fq_work.specs.declared.reply.Cause.{Cause}
 use Rattle.fq_work.specs.declared.reply.Cause.TheVariants as cause
 use Rattle.fq_work.specs.declared.reply.Reply.{Reply}

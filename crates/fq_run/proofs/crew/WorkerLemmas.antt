@@ -8,9 +8,9 @@ use Rattle.fq_lane.specs.declared.tx.NotEnded.{NotEnded}
 use Rattle.fq_block.specs.Blocks.{Numbered}
 use Rattle.fq_work.specs.Replies.{Answers}
 use Rattle.fq_work.specs.Work.{pairs_of, with_items}
-use Rattle.fq_tally.specs.declared.tally.Tally.{Tally}
-use Rattle.fq_tally.specs.Results.{tally_if, tally_with}
-use Rattle.fq_tally.proofs.ResultLemmas.{with_none}
+use Rattle.fq_report_pairs.specs.declared.tally.Tally.{Tally}
+use Rattle.fq_report_pairs.specs.Results.{tally_if, tally_with}
+use Rattle.fq_report_pairs.proofs.ResultLemmas.{with_none}
 use Rattle.fq_work.specs.declared.ends.WorkEnds.{WorkEnds}
 use Rattle.fq_work.specs.declared.ends.Worked.{Worked}
 use Rattle.fq_work.specs.declared.reply.Cause.{Cause}

@@ -2,7 +2,7 @@
 use Rattle.std.specs.Prelude.{◌≡◌, ◌≤◌, ℕ, Bool, false, [], vec_len, vec_capacity}
 use Rattle.fq_lane.specs.History.{History, Name}
 use Rattle.fq_block.specs.Blocks.{Numbered}
-use Rattle.fq_tally.specs.Results.{none_counted}
+use Rattle.fq_report_pairs.specs.Results.{none_counted}
 use Rattle.fq_work.specs.declared.ends.WorkEnds.{WorkEnds}
 use Rattle.fq_work.specs.declared.reply.Reply.{Reply}
 use Rattle.fq_run.specs.Each.{Each3}

@@ -2,7 +2,7 @@
 
 use fq_block::Block;
 use fq_lane::{Rx, Tx};
-use fq_tally::Tally;
+use fq_report_pairs::Tally;
 use fq_trim::Steps;
 use fq_work::{Reply, Worked};
 use std::snapshot::Snapshot;

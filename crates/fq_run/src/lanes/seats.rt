@@ -1,13 +1,13 @@
 //! The lanes of all workers, before the threads start.
 
 ghost use Rattle.std.specs.Prelude.{◌≡◌, ◌≤◌, IfOk};
-ghost use Rattle.fq_tally.specs.Results.{none_counted};
+ghost use Rattle.fq_report_pairs.specs.Results.{none_counted};
 ghost use Rattle.fq_run.specs.lanes.Laying.{IsLaid, AreFor};
 
 use crate::collector::ends::CollectorEnds;
 use crate::dealer::ends::DealerEnds;
 use fq_lane::lane;
-use fq_tally::Tally;
+use fq_report_pairs::Tally;
 use fq_text::OutOfMemory;
 use fq_work::WorkEnds;
 use std::alloc::Global;

@@ -3,9 +3,9 @@ use Rattle.clap.specs.Words.{HasKind, kind_of}
 use Rattle.clap.specs.Kinds.{Kinds}
 use Rattle.clap.specs.declared.error.kind.ErrorKind.TheVariants.{DisplayHelp, DisplayVersion, OutOfMemory}
 use Rattle.fq_app.specs.Answers.{device_of, IsCall, NamesDevice, PairsAnswered}
-use Rattle.fq_cli.specs.Requests.{Asking, asking_of}
-use Rattle.fq_files_run.specs.Opening.{SparesInputs}
-use Rattle.fq_cli.specs.Words.{asked_pairs, words_fault}
+use Rattle.fq_app_words.specs.Requests.{Asking, asking_of}
+use Rattle.fq_app_files.specs.Opening.{SparesInputs}
+use Rattle.fq_app_words.specs.Words.{asked_pairs, words_fault}
 use Rattle.fq_app.proofs.AnswerLemmas.{among_all, asks_this, lacks_answer}
 use Rattle.fq_app.proofs.FileLemmas.{whole_files, files_left}
 use Rattle.fq_app.proofs.answering.program.Goals as goal

@@ -1,5 +1,5 @@
 use Rattle.std.proofs.Common.{refl, inl, inr}
-use Rattle.fq_cli.specs.Requests.{asking_of}
+use Rattle.fq_app_words.specs.Requests.{asking_of}
 use Rattle.fq_app.proofs.AnswerLemmas.{memory_took}
 use Rattle.fq_app.proofs.answering.tell.Goals as goal
 

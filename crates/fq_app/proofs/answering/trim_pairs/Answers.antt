@@ -1,10 +1,10 @@
 use Rattle.std.proofs.Common.{◌≡◌, ◌≢◌, ◌⊎◌, IsTrue, refl, inl, ap, subst, sym, arith}
 use Rattle.fq_files.specs.States.{FilesState}
-use Rattle.fq_files_run.specs.Faults.{outcome_status}
+use Rattle.fq_app_files.specs.Faults.{outcome_status}
 use Rattle.fq_app.specs.Answers.{device_of, TookLine, EndsWhole}
-use Rattle.fq_cli.specs.Requests.{asking_of}
-use Rattle.fq_files_run.specs.Judging.{wrong_with}
-use Rattle.fq_files_run.proofs.EndingLemmas.{ends_so}
+use Rattle.fq_app_words.specs.Requests.{asking_of}
+use Rattle.fq_app_files.specs.Judging.{wrong_with}
+use Rattle.fq_app_files.proofs.EndingLemmas.{ends_so}
 use Rattle.fq_app.proofs.AnswerLemmas.{IsRun, failed_device, is_held, is_left, left_so, not_failed, refused_answer, refused_device, refuses_fails, refuses_memory, some_in, told_line}
 use Rattle.fq_app.proofs.answering.trim_pairs.Goals as goal
 

@@ -1,5 +1,5 @@
 use Rattle.std.proofs.Common.{◌∙◌, List, ℕ, inl, inr, subst}
-use Rattle.fq_cli.specs.Requests.{asking_of}
+use Rattle.fq_app_words.specs.Requests.{asking_of}
 use Rattle.fq_app.specs.Answers.{Device, TookText, device_of}
 use Rattle.fq_app.proofs.AnswerLemmas.{plain_report}
 use Rattle.fq_app.proofs.telling.cannot_report.Goals as goal

@@ -1,8 +1,8 @@
 use Rattle.std.proofs.Common.{rules, ◌∙◌, Option, List, ℕ, inl, ap, sym, subst}
 use Rattle.std.specs.Option.{option_map}
-use Rattle.fq_cli.specs.Requests.{Asking, asking_of}
-use Rattle.fq_files_run.specs.Faults.{outcome_status}
-use Rattle.fq_reasons.specs.Lines.{line_for}
+use Rattle.fq_app_words.specs.Requests.{Asking, asking_of}
+use Rattle.fq_app_files.specs.Faults.{outcome_status}
+use Rattle.fq_app_reasons.specs.Lines.{line_for}
 use Rattle.fq_app.specs.Answers.{Device, TookText, device_of}
 use Rattle.fq_app.proofs.AnswerLemmas.{told_memory}
 use Rattle.fq_app.proofs.telling.tell_account.Goals as goal

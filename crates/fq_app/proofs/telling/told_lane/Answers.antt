@@ -1,8 +1,8 @@
 use Rattle.std.proofs.Common.{◌∙◌, Option, ap, sym}
 use Rattle.std.specs.Option.{option_map}
 use Rattle.fq_run_core.specs.declared.outcome.Outcome.TheVariants.{Lane}
-use Rattle.fq_cli.specs.Requests.{Asking, asking_of}
-use Rattle.fq_reasons.specs.Lines.{line_for}
+use Rattle.fq_app_words.specs.Requests.{Asking, asking_of}
+use Rattle.fq_app_reasons.specs.Lines.{line_for}
 use Rattle.fq_app.proofs.telling.told_lane.Goals as goal
 
 -- a request has the line of its own

@@ -5,18 +5,18 @@ use Rattle.fq_pair.specs.declared.fault.InputFault.TheVariants.{Text}
 use Rattle.fq_run.specs.Outcome.{Outcome}
 use Rattle.fq_run.specs.Outcome.TheVariants.{Input}
 use Rattle.fq_run.specs.Endings.{AreTold, ends_whole}
-use Rattle.fq_cli.specs.Requests.{asking_of}
-use Rattle.fq_files_run.specs.Trimming.{opened_of, left_of, run_in}
+use Rattle.fq_app_words.specs.Requests.{asking_of}
+use Rattle.fq_app_files.specs.Trimming.{opened_of, left_of, run_in}
 use Rattle.fq_files.specs.States.{Errors, FilesState, MaySay}
 use Rattle.fq_files.proofs.StateLemmas.{same_as, says_as, store_fail, then_store, told_as, told_before}
-use Rattle.fq_files_run.proofs.StoreLemmas.{all_hold}
-use Rattle.fq_files_run.proofs.EndingLemmas.{ends_so}
-use Rattle.fq_files_run.proofs.FailureLemmas.{as_it_is, fails_as_told, feed_sound, not_lane, outlets_flushed, outlets_sound}
-use Rattle.fq_files_run.proofs.CompletingLemmas.{IsHeld, first_pairs, report_of_run, sides_in, trims_files}
-use Rattle.fq_files_run.proofs.OpeningLemmas.{inputs_kept}
-use Rattle.fq_files_run.specs.Seeing.{InputsMaySay, OutputsMaySay}
-use Rattle.fq_files_run.specs.Faults.{settled}
-use Rattle.fq_files_run.proofs.SaidLemmas.{is_said, its_error}
+use Rattle.fq_app_files.proofs.StoreLemmas.{all_hold}
+use Rattle.fq_app_files.proofs.EndingLemmas.{ends_so}
+use Rattle.fq_app_files.proofs.FailureLemmas.{as_it_is, fails_as_told, feed_sound, not_lane, outlets_flushed, outlets_sound}
+use Rattle.fq_app_files.proofs.CompletingLemmas.{IsHeld, first_pairs, report_of_run, sides_in, trims_files}
+use Rattle.fq_app_files.proofs.OpeningLemmas.{inputs_kept}
+use Rattle.fq_app_files.specs.Seeing.{InputsMaySay, OutputsMaySay}
+use Rattle.fq_app_files.specs.Faults.{settled}
+use Rattle.fq_app_files.proofs.SaidLemmas.{is_said, its_error}
 use Rattle.fq_app.proofs.trimming.complete.Goals as goal
 
 -- the file of each output exists when the outlets are handed back

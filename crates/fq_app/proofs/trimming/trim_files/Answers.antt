@@ -1,8 +1,8 @@
 use Rattle.std.proofs.lemmas.Result.{err_from_is_err_and}
 use Rattle.fq_files.specs.States.{Errors, MaySay}
 use Rattle.fq_files.proofs.StateLemmas.{says_as}
-use Rattle.fq_cli.specs.Requests.{asking_of}
-use Rattle.fq_files_run.proofs.OpeningLemmas.{refusable_right, wrong_refused}
+use Rattle.fq_app_words.specs.Requests.{asking_of}
+use Rattle.fq_app_files.proofs.OpeningLemmas.{refusable_right, wrong_refused}
 use Rattle.fq_app.proofs.trimming.trim_files.Goals as goal
 
 -- the refusal of a wrong request is true, and no file has changed

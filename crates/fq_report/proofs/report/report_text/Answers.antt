@@ -8,10 +8,10 @@ use Rattle.fq_pair.specs.Forms.{Form, TwoTexts, InterleavedText}
 use Rattle.fq_pair.specs.Inputs.{InputNames}
 use Rattle.fq_report.specs.Reports.{inputs_value, outputs_value, pairs_value, counts, length_value, rows_from, named_columns, positions_value, reads_value, removed_value, side_value, sides_value, done_value, step_value, steps_from, report_value}
 use Rattle.fq_pair.specs.declared.counts.Counts.{Counts}
-use Rattle.fq_read_tally.specs.declared.columns.Columns.{Columns}
-use Rattle.fq_read_tally.specs.declared.reads.ReadsTally.{ReadsTally}
-use Rattle.fq_read_tally.specs.declared.side.SideTally.{SideTally}
-use Rattle.fq_tally.specs.declared.tally.Tally.{Tally}
+use Rattle.fq_report_reads.specs.declared.columns.Columns.{Columns}
+use Rattle.fq_report_reads.specs.declared.reads.ReadsTally.{ReadsTally}
+use Rattle.fq_report_reads.specs.declared.side.SideTally.{SideTally}
+use Rattle.fq_report_pairs.specs.declared.tally.Tally.{Tally}
 use Rattle.fq_report.proofs.report.report_text.Goals as goal
 
 -- A report has no float, so its value determines its text.

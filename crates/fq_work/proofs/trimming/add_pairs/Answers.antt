@@ -2,10 +2,10 @@ use Rattle.std.proofs.Common.{◌≡◌, ◌<◌, Option, IfSome, subst, [], ◌
 use Rattle.std.proofs.lemmas.List.{take_more, length-take}
 use Rattle.std.proofs.lemmas.Option.{get_or_from_slice_get}
 use Rattle.fq_pair.specs.Mates.{Mates, mates_in, name_lengths}
-use Rattle.fq_tally.specs.declared.done.Done.{Done}
-use Rattle.fq_tally.specs.declared.tally.Tally.{Tally}
-use Rattle.fq_tally.specs.Results.{made_of, with_mates, tally_with}
-use Rattle.fq_tally.proofs.ResultLemmas.{made_more, with_more, with_nothing}
+use Rattle.fq_report_pairs.specs.declared.done.Done.{Done}
+use Rattle.fq_report_pairs.specs.declared.tally.Tally.{Tally}
+use Rattle.fq_report_pairs.specs.Results.{made_of, with_mates, tally_with}
+use Rattle.fq_report_pairs.proofs.ResultLemmas.{made_more, with_more, with_nothing}
 use Rattle.fq_work.proofs.trimming.add_pairs.Goals as goal
 
 -- the lengths that the block has for a pair are those of its names

@@ -1,5 +1,5 @@
 use Rattle.std.proofs.Common.{◌≡◌, take}
-use Rattle.fq_tally.specs.Results.{made_of, tally_with}
+use Rattle.fq_report_pairs.specs.Results.{made_of, tally_with}
 use Rattle.fq_work.proofs.trimming.add_pairs.Given as goal
 
 -- what was made and counted is that of the first i pairs of the block

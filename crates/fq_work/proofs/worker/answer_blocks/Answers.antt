@@ -2,7 +2,7 @@ use Rattle.std.proofs.Common.{[], ◌∷◌, ◌++◌, refl, sym, ◌∙◌}
 use Rattle.fq_work.specs.declared.reply.Reply.TheVariants.{Done as done, Stop}
 use Rattle.fq_work.specs.Replies.{done_of}
 use Rattle.fq_work.proofs.WorkLemmas.{with_none, with_more, answers_done, answers_stop, tally_more}
-use Rattle.fq_tally.proofs.ResultLemmas.{with_nothing}
+use Rattle.fq_report_pairs.proofs.ResultLemmas.{with_nothing}
 use Rattle.fq_work.proofs.worker.answer_blocks.Goals as goal
 
 -- at the start no block was taken, and no reply sent

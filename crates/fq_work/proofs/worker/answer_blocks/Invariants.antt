@@ -1,5 +1,5 @@
 use Rattle.std.proofs.Common.{◌≡◌, List, None}
-use Rattle.fq_tally.specs.Results.{tally_with}
+use Rattle.fq_report_pairs.specs.Results.{tally_with}
 use Rattle.fq_block.specs.Blocks.{Numbered}
 use Rattle.fq_work.specs.declared.reply.Reply.{Reply}
 use Rattle.fq_work.specs.Replies.{Answers}

@@ -1,0 +1,206 @@
+-- What the files of the outputs hold if the program does not end whole.
+use Rattle.std.proofs.Common.{◌≡◌, ◌≢◌, ℕ, IsTrue, IsSome, Option, Some, None, List, [], ◌++◌, refl, sym, ap, subst, ◌∙◌, inl, inr, ◌⊎◌, ⊎_elim}
+use Rattle.std.proofs.lemmas.List.{append-nil}
+use Rattle.fq_files.specs.Holding.{Holding, IsUnchanged}
+use Rattle.fq_files.specs.States.{FilesState}
+use Rattle.fq_pair.specs.declared.counts.Counts.{Counts}
+use Rattle.fq_pair.specs.declared.fault.InputFault.{InputFault}
+use Rattle.fq_pair.specs.declared.out.Out.{Out}
+use Rattle.fq_pair.specs.Mates.{Mates}
+use Rattle.fq_pair.specs.Pairing.{Pairs}
+use Rattle.fq_pair.specs.Outputs.{texts_of, text_of}
+use Rattle.fq_run_core.specs.Choices.{Choices}
+use Rattle.fq_run_core.specs.declared.outcome.Outcome.{Outcome}
+use Rattle.fq_run_core.specs.declared.outcome.Outcome.TheVariants.{Spawn, Write}
+use Rattle.fq_run_core.specs.Devices.{OutletStates, OutletsTook}
+use Rattle.fq_run_core.specs.Endings.{Run, AreFirst, AreTold, EveryEnding, all_pairs, trimmed_outcome}
+use Rattle.fq_run_core.specs.Fates.{Fate, Unbroken, failed_outlet, block_begun, part_begun, IsCutShort}
+use Rattle.fq_app_files.specs.Refusals.{IsMemory, IsReport}
+use Rattle.fq_app_files.specs.declared.refusal.Refusal.{Refusal}
+use Rattle.fq_app_files.specs.declared.refusal.Refusal.TheVariants as why
+use Rattle.fq_app_words.specs.Requests.{Asking, InputNames}
+use Rattle.fq_app_files.specs.Trimming.{IsNoOutput, TrimsFiles, pairs_of}
+use Rattle.fq_app_files.specs.Leaving.{AreUntrimmed, RefusalLeaves, ReportLeft, TellsInputs, is_late, IsTold, HoldFirstPairs}
+use Rattle.fq_app_files.proofs.MakingLemmas.{output_or_none, stops_untrimmed}
+
+-- The outlets took the texts of the first pairs, whose block was written whole. If a write failed
+-- in the block after them, the outlets before the failed one took their texts of that block, the
+-- failed one took a first part of its text, and those after it took nothing.
+pub record TrimsFirst (c : Choices) (all : Pairs)
+    (old new : OutletStates) (ended : Outcome) : Type 0 where
+  pub whole : List Mates
+  pub fate : Fate
+  pub took : OutletsTook old new (λ out. text_of out (texts_of c.steps whole)
+      ++ part_begun c.steps fate out) (failed_outlet fate)
+  pub cut_short : IsCutShort c.block_pairs c.steps fate
+  pub first : AreFirst (whole ++ block_begun fate) all.mates
+  pub told : IsTold whole fate ended
+
+-- what a run promises about its outlets, at every ending
+pub first_of : (c : Choices) (run : Run) → EveryEnding c run → AreTold run →
+    TrimsFirst c (all_pairs c run) run.outlets run.outlets_left run.outcome
+first_of c run every told = record {
+  whole = every.whole;
+  fate = every.fate;
+  took = every.took;
+  cut_short = every.cut_short;
+  first = every.first told;
+  told = record {
+    spawn = every.outcome.spawn;
+    write = every.outcome.write;
+    outlet_failed =
+        every.outcome.outlet_failed;
+  };
+}
+
+-- ---- refusals
+
+-- a refusal after the inputs are opened says only that both inputs exist
+pub tells_late : (inputs : InputNames) (refusal : Refusal) (old : FilesState)
+    (forward reverse : List ℕ) → IsTrue (is_late refusal)
+    → old.bytes inputs.forward ≡ Some forward → old.bytes inputs.reverse ≡ Some reverse →
+    TellsInputs inputs refusal old
+tells_late inputs (why.Target out cause) old forward reverse late first second =
+    (subst IsSome (sym first) refl, subst IsSome (sym second) refl)
+tells_late inputs (why.Report cause) old forward reverse late first second =
+    (subst IsSome (sym first) refl, subst IsSome (sym second) refl)
+tells_late inputs (why.Memory lacked) old forward reverse late first second = tt
+tells_late inputs why.Encoding old forward reverse late first second =
+    absurd (cc late)
+tells_late inputs (why.Step fault) old forward reverse late first second =
+    absurd (cc late)
+tells_late inputs (why.Setting bad) old forward reverse late first second =
+    absurd (cc late)
+tells_late inputs (why.SameName out) old forward reverse late first second =
+    absurd (cc late)
+tells_late inputs (why.Source side cause) old forward reverse late first second =
+    absurd (cc late)
+tells_late inputs why.SameReport old forward reverse late first second =
+    absurd (cc late)
+
+-- if something was refused, nothing was trimmed
+pub refusal_untrimmed : (a : Asking) (refusal : Refusal) (old new : Holding) →
+    RefusalLeaves a refusal old new → AreUntrimmed a old new
+refusal_untrimmed a why.Encoding old new left = λ out name named. inl (left name)
+refusal_untrimmed a (why.Step fault) old new left = λ out name named. inl (left name)
+refusal_untrimmed a (why.Setting bad) old new left = λ out name named. inl (left name)
+refusal_untrimmed a (why.SameName out) old new left = λ o name named. inl (left name)
+refusal_untrimmed a (why.Source side cause) old new left = λ out name named. inl (left name)
+refusal_untrimmed a (why.Target out cause) old new left =
+    ⊎_elim (λ stops. stops_untrimmed a out old new stops) (λ same out name named. inl (same name))
+    left
+refusal_untrimmed a why.SameReport old new left = λ out name named. inl (left name)
+refusal_untrimmed a (why.Report cause) old new left =
+    ⊎_elim (λ empty out name named. inr (empty out name named))
+    (λ same out name named. inl (same name)) left
+refusal_untrimmed a (why.Memory lacked) old new left = left
+
+-- what a refusal left, after calls that changed nothing
+pub unchanged_or_nothing : (old mid new : Option (List ℕ)) → mid ≡ old →
+    (new ≡ mid) ⊎ (new ≡ Some []) → (new ≡ old) ⊎ (new ≡ Some [])
+unchanged_or_nothing old mid new same (inl kept) = inl (kept ∙ same)
+unchanged_or_nothing old mid new same (inr nothing) = inr nothing
+
+-- what a refusal leaves of files that had not changed yet, it leaves of those at the start
+pub leaves_since : (a : Asking) (refusal : Refusal) (old mid new : Holding) → IsUnchanged old mid →
+    RefusalLeaves a refusal mid new → RefusalLeaves a refusal old new
+leaves_since a why.Encoding old mid new same left = λ name. left name ∙ same name
+leaves_since a (why.Step fault) old mid new same left = λ name. left name ∙ same name
+leaves_since a (why.Setting bad) old mid new same left = λ name. left name ∙ same name
+leaves_since a (why.SameName out) old mid new same left = λ name. left name ∙ same name
+leaves_since a (why.Source side cause) old mid new same left = λ name. left name ∙ same name
+leaves_since a (why.Target out cause) old mid new same left = ⊎_elim
+    (λ stops. inl (record {
+      before = stops.before;
+      there = λ name named. unchanged_or_nothing (old name) (mid name) (new name) (same name)
+          (stops.there name named);
+      behind = λ name behind. stops.behind name behind ∙ same name;
+    }))
+    (λ kept. inr (λ name. kept name ∙ same name)) left
+leaves_since a why.SameReport old mid new same left = λ name. left name ∙ same name
+leaves_since a (why.Report cause) old mid new same left =
+    ⊎_elim (λ empty. inl empty) (λ kept. inr (λ name. kept name ∙ same name)) left
+leaves_since a (why.Memory lacked) old mid new same left =
+    λ out name named. unchanged_or_nothing (old name) (mid name) (new name) (same name)
+    (left out name named)
+
+-- ---- whole runs
+
+not_spawn : (fault : Option InputFault) → trimmed_outcome fault ≢ Spawn
+not_spawn None e = absurd (cc e)
+not_spawn (Some fault) e = absurd (cc e)
+
+not_written : (fault : Option InputFault) (out : Out) → trimmed_outcome fault ≢ Write out
+not_written None out e = absurd (cc e)
+not_written (Some fault) out e = absurd (cc e)
+
+-- all pairs are their own first pairs
+pub whole_first : (a : Asking) (old new : Holding) (outcome : Outcome) (counts : Counts) →
+    TrimsFiles a old new outcome counts → HoldFirstPairs a old new outcome
+whole_first a old new outcome counts trims =
+    let all = pairs_of trims.choices a.inputs.form trims.forward trims.reverse in
+    record {
+      choices = trims.choices;
+      forward = trims.forward;
+      reverse = trims.reverse;
+      whole = all.mates;
+      fate = Unbroken;
+      settings = trims.settings;
+      forward_is = trims.forward_is;
+      reverse_is = trims.reverse_is;
+      texts = λ out name own. trims.texts out name own
+          ∙ ap Some (sym (append-nil (text_of out (texts_of trims.choices.steps all.mates))));
+      cut_short = tt;
+      first = ([], sym (append-nil (all.mates ++ []) ∙ append-nil all.mates));
+      told = record {
+        spawn = λ spawned. absurd (not_spawn all.fault (sym trims.outcome_is ∙ spawned));
+        write = λ out written. absurd (not_written all.fault out (sym trims.outcome_is ∙ written));
+        outlet_failed = λ out failed. absurd (cc failed);
+      };
+    }
+
+-- ---- the report
+
+-- a refusal before the report is made leaves its file unchanged
+pub report_behind : (refusal : Refusal) (old new : Option (List ℕ)) → new ≡ old →
+    ReportLeft refusal old new
+report_behind why.Encoding old new same = same
+report_behind (why.Step fault) old new same = same
+report_behind (why.Setting bad) old new same = same
+report_behind (why.SameName out) old new same = same
+report_behind (why.Source side cause) old new same = same
+report_behind (why.Target out cause) old new same = same
+report_behind why.SameReport old new same = same
+report_behind (why.Report cause) old new same = inl same
+report_behind (why.Memory lacked) old new same = inl same
+
+-- the report itself was refused, or memory for it
+pub report_refused : (refusal : Refusal) (old new : Option (List ℕ)) →
+    IsReport refusal ⊎ IsMemory refusal → (new ≡ old) ⊎ (new ≡ Some []) →
+    ReportLeft refusal old new
+report_refused refusal old new is left =
+    let P : Refusal → Type 0 = λ r. ReportLeft r old new in
+    ⊎_elim (λ report. subst P (sym report.1) left) (λ memory. subst P (sym memory.1) left) is
+
+-- what each refusal leaves in the file of the report
+left_or_nothing : (refusal : Refusal) (old new : Option (List ℕ)) → ReportLeft refusal old new →
+    (new ≡ old) ⊎ (new ≡ Some [])
+left_or_nothing why.Encoding old new left = inl left
+left_or_nothing (why.Step fault) old new left = inl left
+left_or_nothing (why.Setting bad) old new left = inl left
+left_or_nothing (why.SameName out) old new left = inl left
+left_or_nothing (why.Source side cause) old new left = inl left
+left_or_nothing (why.Target out cause) old new left = inl left
+left_or_nothing why.SameReport old new left = inl left
+left_or_nothing (why.Report cause) old new left = left
+left_or_nothing (why.Memory lacked) old new left = left
+
+-- a refusal leaves in the file of the report what it held before, or nothing
+pub report_untrimmed : (a : Asking) (refusal : Refusal) (old new : Holding) →
+    RefusalLeaves a refusal old new → ((name : List ℕ) → a.report ≡ Some name → IsNoOutput a name →
+    ReportLeft refusal (old name) (new name))
+    → (name : List ℕ) → a.report ≡ Some name → (new name ≡ old name) ⊎ (new name ≡ Some [])
+report_untrimmed a refusal old new left report_left name named = ⊎_elim
+    (λ output. refusal_untrimmed a refusal old new left output.0 name output.1)
+    (λ free. left_or_nothing refusal (old name) (new name) (report_left name named free))
+    (output_or_none a name)

@@ -1,0 +1,318 @@
+-- Outputs that are made one after the other.
+use Rattle.std.proofs.Common.{◌≡◌, ◌≢◌, ℕ, suc, ◌<◌, ◌≤◌, true, false, IsTrue, IsSome, IfSome, Option, Some, None, List, [], refl, sym, ap, subst, ◌∙◌, arith, inl, inr, ◌⊎◌, ⊎_elim}
+use Rattle.std.proofs.lemmas.Bool.{cases_Bool}
+use Rattle.std.proofs.lemmas.Slice.Eq.{bytes_eq-Decides}
+use Rattle.std.specs.Str.{bytes_eq}
+use Rattle.fq_pair.specs.declared.out.Out.{Out}
+use Rattle.fq_pair.specs.declared.out.Out.TheVariants.{ForwardPaired, ForwardUnpaired, ReversePaired, ReverseUnpaired, Log}
+use Rattle.fq_files.specs.Holding.{Holding, KeepsOthers}
+use Rattle.fq_files.specs.States.{FilesState, OnlyWrites}
+use Rattle.fq_text.specs.Devices.{OutletState}
+use Rattle.fq_run_core.specs.Devices.{OutletStates, place}
+use Rattle.fq_app_files.specs.Refusals.{IsMemory, IsTarget, IsReport}
+use Rattle.fq_app_files.specs.declared.refusal.Refusal.{Refusal}
+use Rattle.fq_app_words.specs.Requests.{Asking, output_name}
+use Rattle.fq_app_files.specs.Trimming.{IsNoOutput, KeepsRest, AreEmpty, AreHeld, IsEmptyOutlet}
+use Rattle.fq_app_files.specs.Leaving.{AreUntrimmed, StopsAt, RefusalLeaves}
+use Rattle.fq_app_files.specs.Making.{AreMade, Made, Unmade}
+use Rattle.fq_app_files.proofs.StoreLemmas.{same_place, below_next}
+
+-- an output was made, empty, and no other file changed
+record IsMade (a : Asking) (out : Out) (old new : Holding) : Type 0 where
+  empty : (name : List ℕ) → output_name a out ≡ Some name → new name ≡ Some []
+  others : (name : List ℕ) → output_name a out ≢ Some name → new name ≡ old name
+
+-- an output was not made: its file holds what it held, or nothing, and no other file changed
+record IsUnmade (a : Asking) (out : Out) (old new : Holding) : Type 0 where
+  there : (name : List ℕ) → output_name a out ≡ Some name →
+      (new name ≡ old name) ⊎ (new name ≡ Some [])
+  others : (name : List ℕ) → output_name a out ≢ Some name → new name ≡ old name
+
+same_name : (o : Option (List ℕ)) (one other : List ℕ) → o ≡ Some one → o ≡ Some other → one ≡ other
+same_name o one other first second = let same : Some one ≡ Some other = sym first ∙ second in cc
+
+-- a call that emptied the file of an output and kept the others made that output
+made_of : (a : Asking) (this : Out) (name : List ℕ) (old new : Holding) →
+    output_name a this ≡ Some name → new name ≡ Some [] → KeepsOthers old new name →
+    IsMade a this old new
+made_of a this name old new named emptied others = record {
+  empty = λ other is. ap new (same_name (output_name a this) other name is named) ∙ emptied;
+  others = λ other free. others other (λ same. free (named ∙ ap Some (sym same)));
+}
+
+unmade_of : (a : Asking) (this : Out) (name : List ℕ) (old new : Holding) →
+    output_name a this ≡ Some name → (new name ≡ old name) ⊎ (new name ≡ Some []) →
+    KeepsOthers old new name → IsUnmade a this old new
+unmade_of a this name old new named there others = record {
+  there = λ other is.
+      let same = same_name (output_name a this) other name is named in
+      ⊎_elim (λ kept. inl (ap new same ∙ (kept ∙ sym (ap old same)))) (λ nothing. inr (ap new same
+      ∙ nothing)) there;
+  others = λ other free. others other (λ same. free (named ∙ ap Some (sym same)));
+}
+
+-- at the start no output has been made, and no file has changed
+pub none_made : (a : Asking) (start : Holding) → AreMade a start 0 start
+none_made a start = record {
+  empty = λ out name named below. absurd (omega (arith, below));
+  kept = λ name behind. refl;
+}
+
+-- a name is this one, or it is not
+pub this_or_other : (o : Option (List ℕ)) (name : List ℕ) → (o ≡ Some name) ⊎ (o ≢ Some name)
+this_or_other None name = inr (λ e. absurd (cc e))
+this_or_other (Some one) name = ⊎_elim
+    (λ same. inl (ap Some ((bytes_eq-Decides one name).0 same)))
+    (λ differs. inr (λ e.
+    let is : one ≡ name = cc in
+    let bad : false ≡ true = sym differs ∙ (bytes_eq-Decides one name).1 is in absurd (cc bad)))
+    (cases_Bool (bytes_eq one name))
+
+-- an output is empty once it has been made
+made_empty : (a : Asking) (this out : Out) (old new : Holding) (name : List ℕ) →
+    IsMade a this old new → out ≡ this → output_name a out ≡ Some name → new name ≡ Some []
+made_empty a this out old new name made is named =
+    made.empty name (ap (output_name a) (sym is) ∙ named)
+
+is_there : (x : Option (List ℕ)) → x ≡ Some [] → IsSome x
+is_there (Some bytes) e = refl
+is_there None e = absurd cc
+
+-- one more output has been made
+next_made : (a : Asking) (start old new : Holding) (this : Out) → AreMade a start (place this) old →
+    IsMade a this old new → AreMade a start (suc (place this)) new
+next_made a start old new this first made = record {
+  empty = λ out name named below. ⊎_elim
+      (λ own. made.empty name own)
+      (λ other. ⊎_elim
+      (λ before. made.others name other ∙ first.empty out name named before)
+      (λ equal. made_empty a this out old new name made (same_place out this equal) named)
+      (below_next (place out) (place this) below))
+      (this_or_other (output_name a this) name);
+  kept = λ name behind.
+      made.others name (λ own. let bad = behind this own in absurd (omega (arith, bad)))
+      ∙ first.kept name (λ out named. let more = behind out named in omega (arith, more));
+}
+
+-- a name that no output has is unchanged
+pub rest_made : (a : Asking) (start files : Holding) (n : ℕ) → AreMade a start n files →
+    KeepsRest a start files
+rest_made a start files n made = λ name free. made.kept name (λ out named. absurd (free out named))
+
+-- the next output could not be made
+rest_unmade : (a : Asking) (start old new : Holding) (this : Out) →
+    AreMade a start (place this) old → IsUnmade a this old new → KeepsRest a start new
+rest_unmade a start old new this first unmade = λ name free. unmade.others name (free this)
+    ∙ rest_made a start old (place this) first name free
+
+-- ---- the first outputs that have a name
+
+-- this is one of the first n outputs, and it has this name
+abbrev pub IsFirst : Asking → ℕ → List ℕ → Out → Type 0
+IsFirst a n name out = (place out < n) × (output_name a out ≡ Some name)
+
+-- this output comes after the first n, or it doesn't have this name
+abbrev pub IsLater : Asking → ℕ → List ℕ → Out → Type 0
+IsLater a n name out = output_name a out ≡ Some name → n ≤ place out
+
+below_or_not : (m n : ℕ) → (m < n) ⊎ (n ≤ m)
+below_or_not m n = grind arith
+
+first_or_later : (a : Asking) (n : ℕ) (name : List ℕ) (out : Out) →
+    IsFirst a n name out ⊎ IsLater a n name out
+first_or_later a n name out = ⊎_elim
+    (λ named. ⊎_elim (λ below. inl (below, named)) (λ behind. inr (λ again. behind))
+    (below_or_not (place out) n))
+    (λ other. inr (λ named. absurd (other named)))
+    (this_or_other (output_name a out) name)
+
+-- one of the first n outputs has this name, or only later ones have it
+pub named_before : (a : Asking) (n : ℕ) (name : List ℕ) →
+    ((out : Out) × IsFirst a n name out) ⊎ ((out : Out) → IsLater a n name out)
+named_before a n name =
+    or_later ForwardPaired (λ one. or_later ForwardUnpaired (λ two. or_later ReversePaired
+    (λ three. or_later ReverseUnpaired (λ four. or_later Log (λ five. inr
+    (all one two three four five))))))
+  where
+    or_later : {P : Type 0} (this : Out) → (IsLater a n name this →
+        ((out : Out) × IsFirst a n name out) ⊎ P) → ((out : Out) × IsFirst a n name out) ⊎ P
+    or_later this others = ⊎_elim (λ first. inl (this, first)) others (first_or_later a n name this)
+
+    all : IsLater a n name ForwardPaired → IsLater a n name ForwardUnpaired →
+        IsLater a n name ReversePaired → IsLater a n name ReverseUnpaired → IsLater a n name Log →
+        (out : Out) → IsLater a n name out
+    all one two three four five ForwardPaired = one
+    all one two three four five ForwardUnpaired = two
+    all one two three four five ReversePaired = three
+    all one two three four five ReverseUnpaired = four
+    all one two three four five Log = five
+
+-- this is the name of an output, or of none
+pub output_or_none : (a : Asking) (name : List ℕ) →
+    ((out : Out) × (output_name a out ≡ Some name)) ⊎ IsNoOutput a name
+output_or_none a name = ⊎_elim (λ found. inl (found.0, found.1.1)) (λ later. inr (none later))
+    (named_before a 5 name)
+  where
+    none : ((out : Out) → IsLater a 5 name out) → IsNoOutput a name
+    none later ForwardPaired named = let bad = later ForwardPaired named in
+        absurd (omega (arith, bad))
+    none later ForwardUnpaired named = let bad = later ForwardUnpaired named in
+        absurd (omega (arith, bad))
+    none later ReversePaired named = let bad = later ReversePaired named in
+        absurd (omega (arith, bad))
+    none later ReverseUnpaired named = let bad = later ReverseUnpaired named in
+        absurd (omega (arith, bad))
+    none later Log named = let bad = later Log named in absurd (omega (arith, bad))
+
+-- what two calls left: what was there before, or nothing
+pub unchanged_or_empty : (old mid new : Option (List ℕ)) → (mid ≡ old) ⊎ (mid ≡ Some []) →
+    (new ≡ mid) ⊎ (new ≡ Some []) → (new ≡ old) ⊎ (new ≡ Some [])
+unchanged_or_empty old mid new first (inr nothing) = inr nothing
+unchanged_or_empty old mid new first (inl kept) =
+    ⊎_elim (λ same. inl (kept ∙ same)) (λ nothing. inr (kept ∙ nothing)) first
+
+-- while outputs are made each file holds what it held, or nothing
+made_untrimmed : (a : Asking) (start files : Holding) (n : ℕ) → AreMade a start n files →
+    (name : List ℕ) → (files name ≡ start name) ⊎ (files name ≡ Some [])
+made_untrimmed a start files n made name = ⊎_elim
+    (λ found. inr (made.empty found.0 name found.1.1 found.1.0))
+    (λ later. inl (made.kept name later))
+    (named_before a n name)
+
+stops_at : (a : Asking) (start old new : Holding) (this : Out) → AreMade a start (place this) old →
+    IsUnmade a this old new → StopsAt a this start new
+stops_at a start old new this first unmade = record {
+  before = λ other name named before. ⊎_elim
+      (λ own. ⊎_elim (λ kept. kept ∙ first.empty other name named before) (λ nothing. nothing)
+      (unmade.there name own))
+      (λ free. unmade.others name free ∙ first.empty other name named before)
+      (this_or_other (output_name a this) name);
+  there = λ name named. unchanged_or_empty (start name) (old name) (new name)
+      (made_untrimmed a start old (place this) first name) (unmade.there name named);
+  behind = λ name behind.
+      unmade.others name (λ own. let bad = behind this own in absurd (omega (arith, bad)))
+      ∙ first.kept name (λ out named. let more = behind out named in omega (arith, more));
+}
+
+-- if an output was not made, nothing was trimmed
+pub stops_untrimmed : (a : Asking) (this : Out) (start new : Holding) → StopsAt a this start new →
+    AreUntrimmed a start new
+stops_untrimmed a this start new stops out name named = ⊎_elim
+    (λ found. ⊎_elim
+    (λ before. inr (stops.before found.0 name found.1.1 before))
+    (λ equal. stops.there name (ap (output_name a) (sym (same_place found.0 this equal))
+    ∙ found.1.1))
+    (below_next (place found.0) (place this) found.1.0))
+    (λ later. inl (stops.behind name (λ other is. let more = later other is in
+    omega (arith, more))))
+    (named_before a (suc (place this)) name)
+
+-- what the files hold after an output was refused
+leaves_made : (a : Asking) (start old new : Holding) (this : Out) (refusal : Refusal) →
+    AreMade a start (place this) old → IsUnmade a this old new →
+    IsTarget this refusal ⊎ IsMemory refusal → RefusalLeaves a refusal start new
+leaves_made a start old new this refusal first unmade is =
+    let stops = stops_at a start old new this first unmade in
+    let P : Refusal → Type 0 = λ r. RefusalLeaves a r start new in
+    ⊎_elim (λ target. subst P (sym target.1) (inl stops))
+    (λ memory. subst P (sym memory.1) (stops_untrimmed a this start new stops)) is
+
+-- A call for one more output: the output is made, or it is refused.
+module _ (a : Asking) (start : Holding) (this : Out) (name : List ℕ)
+    (named : output_name a this ≡ Some name)
+    (old new : FilesState) (kept : OnlyWrites old new)
+    (first : Made a start (place this) old) (others : IsTrue old.tells →
+    KeepsOthers old.bytes new.bytes name) where
+  before : IsTrue new.tells → IsTrue old.tells
+  before told = subst IsTrue (ap (λ (files : FilesState). files.tells) kept) told
+
+  -- if the output is made, one more has been made
+  pub one_made : (IsTrue old.tells → new.bytes name ≡ Some []) →
+      Made a start (suc (place this)) new
+  one_made emptied told =
+      next_made a start old.bytes new.bytes this (first (before told))
+      (made_of a this name old.bytes new.bytes named (emptied (before told))
+      (others (before told)))
+
+  -- if the output is refused, the files hold what its refusal leaves
+  pub none_more : (refusal : Refusal) → (IsTrue old.tells → (new.bytes name ≡ old.bytes name)
+      ⊎ (new.bytes name ≡ Some [])) → IsTarget this refusal ⊎ IsMemory refusal →
+      Unmade a refusal start new
+  none_more refusal there is told =
+      let unmade = unmade_of a this name old.bytes new.bytes named (there (before told))
+      (others (before told)) in
+      record {
+        rest = rest_unmade a start old.bytes new.bytes this (first (before told)) unmade;
+        leaves = leaves_made a start old.bytes new.bytes this refusal (first (before told))
+            unmade is;
+      }
+
+-- without a log, all outputs are made after the fourth
+pub no_log_made : (a : Asking) (start files : Holding) → output_name a Log ≡ None →
+    AreMade a start 4 files → AreMade a start 5 files
+no_log_made a start files none made = record {
+  empty = λ out name named below. ⊎_elim (λ before. made.empty out name named before)
+      (λ four. absurd (not_log out name four named)) (below_next (place out) 4 below);
+  kept = λ name behind. made.kept name (λ out named. let more = behind out named in
+      omega (arith, more));
+}
+  where
+    not_log : (out : Out) (name : List ℕ) → place out ≡ 4 → output_name a out ≢ Some name
+    not_log out name four named =
+        let bad : None ≡ Some name = sym none
+        ∙ (ap (output_name a) (sym (same_place out Log four)) ∙ named) in absurd cc
+
+-- once all outputs are made, the file of each is empty
+pub five_empty : (a : Asking) (start files : Holding) → AreMade a start 5 files →
+    (out : Out) (name : List ℕ) → output_name a out ≡ Some name → files name ≡ Some []
+five_empty a start files made ForwardPaired name named =
+    made.empty ForwardPaired name named (omega arith)
+five_empty a start files made ForwardUnpaired name named =
+    made.empty ForwardUnpaired name named (omega arith)
+five_empty a start files made ReversePaired name named =
+    made.empty ReversePaired name named (omega arith)
+five_empty a start files made ReverseUnpaired name named =
+    made.empty ReverseUnpaired name named (omega arith)
+five_empty a start files made Log name named = made.empty Log name named (omega arith)
+
+-- once all outputs are made, the file of each exists
+pub five_held : (a : Asking) (start files : Holding) → AreMade a start 5 files → AreHeld a files
+five_held a start files made out name named =
+    is_there (files name) (five_empty a start files made out name named)
+
+-- a report that could not be made leaves the outputs empty, also one of its own name
+pub still_empty : (a : Asking) (old new : Holding) →
+    ((out : Out) (name : List ℕ) → output_name a out ≡ Some name → old name ≡ Some [])
+    → ((name : List ℕ) → a.report ≡ Some name → (new name ≡ old name) ⊎ (new name ≡ Some [])) →
+    ((name : List ℕ) → a.report ≢ Some name → new name ≡ old name)
+    → (out : Out) (name : List ℕ) → output_name a out ≡ Some name → new name ≡ Some []
+still_empty a old new empty there others out name named = ⊎_elim
+    (λ report. ⊎_elim (λ kept. kept ∙ empty out name named) (λ nothing. nothing) (there name
+    report))
+    (λ other. others name other ∙ empty out name named)
+    (this_or_other a.report name)
+
+-- if the report is not made after the outputs, they stay empty
+pub report_unmade : (a : Asking) (refusal : Refusal) (old new : Holding) →
+    IsReport refusal ⊎ IsMemory refusal
+    → ((out : Out) (name : List ℕ) → output_name a out ≡ Some name → new name ≡ Some []) →
+    RefusalLeaves a refusal old new
+report_unmade a refusal old new is empty =
+    let P : Refusal → Type 0 = λ r. RefusalLeaves a r old new in
+    ⊎_elim (λ report. subst P (sym report.1) (inl empty))
+    (λ memory. subst P (sym memory.1) (λ out name named. inr (empty out name named))) is
+
+-- outlets that are each empty are all empty
+pub all_empty : (o : OutletStates) → IsEmptyOutlet o.forward_paired →
+    IsEmptyOutlet o.forward_unpaired → IsEmptyOutlet o.reverse_paired →
+    IsEmptyOutlet o.reverse_unpaired → IfSome o.log IsEmptyOutlet → AreEmpty o
+all_empty o one two three four log ForwardPaired outlet at =
+    let is : o.forward_paired ≡ outlet = cc in subst IsEmptyOutlet is one
+all_empty o one two three four log ForwardUnpaired outlet at =
+    let is : o.forward_unpaired ≡ outlet = cc in subst IsEmptyOutlet is two
+all_empty o one two three four log ReversePaired outlet at =
+    let is : o.reverse_paired ≡ outlet = cc in subst IsEmptyOutlet is three
+all_empty o one two three four log ReverseUnpaired outlet at =
+    let is : o.reverse_unpaired ≡ outlet = cc in subst IsEmptyOutlet is four
+all_empty o one two three four log Log outlet at =
+    let P : Option OutletState → Type 0 = λ o. IfSome o IsEmptyOutlet in subst P at log

@@ -1,0 +1,437 @@
+-- What a refusal leaves, in the order in which inputs are opened and outputs are made.
+use Rattle.std.proofs.Common.{◌≡◌, ◌≢◌, ◌⊎◌, ◌∙◌, ℕ, Bool, true, false, IsTrue, IsSome, Option, Some, None, option_map, Ok, Err, Result, List, refl, sym, ap, subst, inl, inr, ⊎_elim}
+use Rattle.std.specs.Prelude.{if◌then◌else◌, unwrap_or, ◌||◌}
+use Rattle.std.specs.Str.{bytes_eq}
+use Rattle.std.proofs.lemmas.Slice.Eq.{bytes_eq-Decides}
+use Rattle.std.proofs.Math.Bool.{or-true}
+use Rattle.fq_text.specs.Scores.{encoding_of}
+use Rattle.fq_files.specs.Holding.{Holding, KeepsNames}
+use Rattle.fq_files.specs.States.{Causes, FilesState, Names, MayRefuse, MayRefuseInput, OnlyOpens, OnlyWrites}
+use Rattle.fq_files.specs.declared.files.Cause.{Cause}
+use Rattle.fq_files.specs.declared.files.Cause.TheVariants as cause
+use Rattle.fq_files.specs.declared.files.FileFault.{FileFault}
+use Rattle.fq_files.specs.declared.files.FileFault.TheVariants.{Refused}
+use Rattle.fq_files.proofs.StateLemmas.{same_as, told_as}
+use Rattle.fq_pair.specs.declared.out.Out.{Out}
+use Rattle.fq_pair.specs.declared.out.Out.TheVariants.{ForwardPaired, ForwardUnpaired, ReversePaired, ReverseUnpaired, Log}
+use Rattle.fq_pair.specs.declared.side.Side.{Side}
+use Rattle.fq_pair.specs.declared.side.Side.TheVariants.{Forward, Reverse}
+use Rattle.fq_text.specs.declared.encoding.Encoding.{Encoding}
+use Rattle.fq_run_core.specs.Devices.{place}
+use Rattle.fq_trim.specs.declared.step.Step.{Step}
+use Rattle.fq_trim.specs.declared.fault.StepFault.{StepFault}
+use Rattle.fq_trim.specs.Words.{steps_of}
+use Rattle.fq_run_core.specs.Choices.{Choices, checked}
+use Rattle.fq_run_core.specs.declared.settings.BadSetting.{BadSetting}
+use Rattle.fq_app_words.specs.Requests.{Asking, InputNames, input_name, is_input, output_name, same_log, same_name, report_is_input}
+use Rattle.fq_app_files.specs.declared.refusal.Refusal.{Refusal}
+use Rattle.fq_app_files.specs.declared.refusal.Refusal.TheVariants as why
+use Rattle.fq_app_files.specs.Refusals.{status_of, IsMemory, IsRefusable, IsTarget, IsReport}
+use Rattle.fq_app_files.specs.Judging.{choices_of, judged, with_steps, with_encoding, settings_of, wrong_among, wrong_with}
+use Rattle.fq_app_files.specs.Trimming.{Opened, IsNoOutput, KeepsUnnamed, AreFed}
+use Rattle.fq_app_files.specs.Leaving.{AreThere, TellsInputs, RefusalLeaves, ReportLeft, is_late}
+use Rattle.fq_app_files.specs.Making.{Made, AreOutputsRefused, IsOutputRefused}
+use Rattle.fq_app_files.specs.Opening.{IsMade, IsRefused, IsUnopened, MayLead}
+use Rattle.fq_app_files.proofs.LeavingLemmas.{tells_late}
+use Rattle.fq_app_files.proofs.MakingLemmas.{this_or_other}
+
+some_there : (o : Option (List ℕ)) (bytes : List ℕ) → o ≡ Some bytes → IsSome o
+some_there o bytes is = let P : Option (List ℕ) → Type 0 = λ x. IsSome x in subst P (sym is) refl
+
+not_none : (o : Option (List ℕ)) (bytes : List ℕ) → o ≡ Some bytes → o ≡ None → ⊥
+not_none o bytes some none = let bad : Some bytes ≡ None = sym some ∙ none in cc
+
+-- the file of an input exists if its feed has the bytes of it
+pub fed_there : (inputs : Opened) (names : InputNames) (old : Holding) → AreFed inputs names old →
+    (side : Side) → old (input_name names side) ≡ None → ⊥
+fed_there inputs names old fed Forward none =
+    not_none (old names.forward) _ fed.forward.bytes_are none
+fed_there inputs names old fed Reverse none =
+    not_none (old names.reverse) _ fed.reverse.bytes_are none
+
+-- the inputs exist in files that keep every name
+pub still_there : (inputs : Opened) (names : InputNames) (old new : Holding) →
+    AreFed inputs names old → KeepsNames old new → AreThere names new
+still_there inputs names old new fed keeps = (
+  keeps names.forward (some_there _ _ fed.forward.bytes_are),
+  keeps names.reverse
+      (some_there _ _ fed.reverse.bytes_are),
+)
+
+-- an output was refused, or the report
+pub refused_late : (a : Asking) (refusal : Refusal) (old new : FilesState) (inputs : Opened) →
+    IsTrue (is_late refusal) → status_of refusal ≢ 2 →
+    IsRefusable a (MayLead a.inputs old) refusal
+    → (IsTrue old.tells → AreFed inputs a.inputs old.bytes) →
+    (IsTrue old.tells → RefusalLeaves a refusal old.bytes new.bytes)
+    → (IsTrue old.tells → (name : List ℕ) → a.report ≡ Some name → IsNoOutput a name →
+    ReportLeft refusal (old.bytes name) (new.bytes name)) →
+    (IsTrue old.tells → KeepsUnnamed a old.bytes new.bytes) → IsUnopened a refusal old new
+refused_late a refusal old new inputs behind late refused fed left report_left
+    rest = record {
+      late = late;
+      refused = refused;
+      inputs = λ told. tells_late a.inputs refusal old _ _ behind
+          (fed told).forward.bytes_are (fed told).reverse.bytes_are;
+      left = left;
+      report_left = report_left;
+      rest = rest;
+      unopened = λ told side none.
+          absurd (fed_there inputs a.inputs old.bytes (fed told) side none);
+    }
+
+-- a refusal of the report, or of memory for it, comes after the inputs, and its status is not 2
+pub report_late : (refusal : Refusal) → IsReport refusal ⊎ IsMemory refusal →
+    IsTrue (is_late refusal)
+report_late refusal is = let P : Refusal → Type 0 = λ r. IsTrue (is_late r) in
+    ⊎_elim (λ report. subst P (sym report.1) refl) (λ memory. subst P (sym memory.1) refl) is
+
+-- an output is refused under its name, for the cause that the files gave, if it is not memory for
+-- it that was refused
+pub output_refused : (a : Asking) (out : Out) (name : List ℕ) → output_name a out ≡ Some name →
+    (P : List ℕ → Cause → Type 0) (fault : FileFault) (refusal : Refusal) →
+    ((cause : Cause) → fault ≡ Refused cause → P name cause) →
+    ((cause : Cause) × (fault ≡ Refused cause) × (refusal ≡ why.Target out cause))
+    ⊎ IsMemory refusal → IsRefusable a P refusal
+output_refused a out name named P fault refusal so is =
+    let R : Refusal → Type 0 = λ r. IsRefusable a P r in
+    ⊎_elim (λ target. subst R (sym target.2) (name, named, so target.0 target.1))
+    (λ memory. subst R (sym memory.1) tt) is
+
+-- so is the report
+pub report_is_refused : (a : Asking) (name : List ℕ) → a.report ≡ Some name →
+    (P : List ℕ → Cause → Type 0) (fault : FileFault) (refusal : Refusal) →
+    ((cause : Cause) → fault ≡ Refused cause → P name cause) →
+    ((cause : Cause) × (fault ≡ Refused cause) × (refusal ≡ why.Report cause))
+    ⊎ IsMemory refusal → IsRefusable a P refusal
+report_is_refused a name named P fault refusal so is =
+    let R : Refusal → Type 0 = λ r. IsRefusable a P r in
+    ⊎_elim (λ report. subst R (sym report.2) (name, named, so report.0 report.1))
+    (λ memory. subst R (sym memory.1) tt) is
+
+-- the refusal of an output comes after the inputs
+pub output_late : (out : Out) (refusal : Refusal) → IsTarget out refusal ⊎ IsMemory refusal →
+    IsTrue (is_late refusal)
+output_late out refusal is = let P : Refusal → Type 0 = λ r. IsTrue (is_late r) in
+    ⊎_elim (λ target. subst P (sym target.1) refl) (λ memory. subst P (sym memory.1) refl) is
+
+-- a refusal that can come once both inputs are opened doesn't have exit status 2
+pub late_status : (refusal : Refusal) → IsTrue (is_late refusal) → status_of refusal ≢ 2
+late_status (why.Target out cause) late e = absurd (cc e)
+late_status (why.Report cause) late e = absurd (cc e)
+late_status (why.Memory lacked) late e = absurd (cc e)
+late_status why.Encoding late e = absurd (cc late)
+late_status (why.Step fault) late e = absurd (cc late)
+late_status (why.Setting bad) late e = absurd (cc late)
+late_status (why.SameName out) late e = absurd (cc late)
+late_status (why.Source side cause) late e = absurd (cc late)
+late_status why.SameReport late e = absurd (cc late)
+
+-- outputs that were made before change nothing of what the refusal of the next one says
+pub outputs_refused : (a : Asking) (refusal : Refusal) (out : Out) (old mid new : FilesState) →
+    OnlyWrites old mid → Made a old.bytes (place out) mid →
+    IsOutputRefused a out refusal mid new → AreOutputsRefused a refusal old new
+outputs_refused a refusal out old mid new kept made refused = record {
+  unmade = refused.unmade old.bytes made;
+  refused = subst (λ (files : FilesState). IsRefusable a (MayRefuse files) refusal) kept
+      refused.refused;
+  behind = refused.behind;
+  late = late_status refusal refused.behind;
+}
+
+-- ---- before the first file is opened
+
+-- a refusal that comes before the first file is opened
+is_first : Refusal → Bool
+is_first (why.Source side cause) = false
+is_first (why.Target out cause) = false
+is_first (why.Report cause) = false
+is_first _ = true
+
+judged_first : (r : Result Choices BadSetting) (report : Option (List ℕ)) (refusal : Refusal) →
+    judged r report ≡ Err refusal → IsTrue (is_first refusal)
+unfolding is_first
+judged_first (Ok c) None refusal e = absurd cc
+judged_first (Ok c) (Some report) refusal e = absurd cc
+judged_first (Err bad) report refusal e = let is : why.Setting bad ≡ refusal = cc in
+    subst (λ (r : Refusal). IsTrue (is_first r)) is refl
+
+steps_first : (a : Asking) (encoding : Encoding) (r : Result (List Step) StepFault)
+    (refusal : Refusal) → with_steps a encoding r ≡ Err refusal → IsTrue (is_first refusal)
+unfolding is_first
+steps_first a encoding (Ok steps) refusal e =
+    judged_first (checked (choices_of a encoding steps)) a.report refusal e
+steps_first a encoding (Err fault) refusal e = let is : why.Step fault ≡ refusal = cc in
+    subst (λ (r : Refusal). IsTrue (is_first r)) is refl
+
+encoding_first : (a : Asking) (o : Option Encoding) (refusal : Refusal) →
+    with_encoding a o ≡ Err refusal → IsTrue (is_first refusal)
+unfolding is_first
+encoding_first a (Some encoding) refusal e = steps_first a encoding (steps_of a.steps) refusal e
+encoding_first a None refusal e = let is : why.Encoding ≡ refusal = cc in
+    subst (λ (r : Refusal). IsTrue (is_first r)) is refl
+
+wrong_first : (a : Asking) (r : Result Choices Refusal) (same : Option Out) (same_report : Bool)
+    (refusal : Refusal) → settings_of a ≡ r → wrong_among r same same_report ≡ Some refusal →
+    IsTrue (is_first refusal)
+unfolding is_first
+wrong_first a (Err bad) same same_report refusal is e = let one : bad ≡ refusal = cc in
+    subst (λ (r : Refusal). IsTrue (is_first r)) one
+    (encoding_first a (encoding_of a.encoding) bad is)
+wrong_first a (Ok c) (Some out) same_report refusal is e = let one : why.SameName out ≡ refusal =
+    cc in subst (λ (r : Refusal). IsTrue (is_first r)) one refl
+wrong_first a (Ok c) None true refusal is e = let one : why.SameReport ≡ refusal = cc in
+    subst (λ (r : Refusal). IsTrue (is_first r)) one refl
+wrong_first a (Ok c) None false refusal is e = absurd (cc e)
+
+first_refused : (a : Asking) (refusal : Refusal) (files : FilesState) →
+    IsTrue (is_first refusal) → IsRefused a refusal files files
+unfolding is_first
+first_refused a why.Encoding files first =
+    record {
+      refused = tt;
+      inputs = λ told. tt;
+      left = λ told name. refl;
+      report_left =
+          λ told name named free. refl;
+    }
+first_refused a (why.Step fault) files first =
+    record {
+      refused = tt;
+      inputs = λ told. tt;
+      left = λ told name. refl;
+      report_left =
+          λ told name named free. refl;
+    }
+first_refused a (why.Setting bad) files first =
+    record {
+      refused = tt;
+      inputs = λ told. tt;
+      left = λ told name. refl;
+      report_left =
+          λ told name named free. refl;
+    }
+first_refused a (why.SameName out) files first =
+    record {
+      refused = tt;
+      inputs = λ told. tt;
+      left = λ told name. refl;
+      report_left =
+          λ told name named free. refl;
+    }
+first_refused a (why.Source side cause) files first = absurd (cc first)
+first_refused a (why.Target out cause) files first = absurd (cc first)
+first_refused a why.SameReport files first =
+    record {
+      refused = tt;
+      inputs = λ told. tt;
+      left = λ told name. refl;
+      report_left =
+          λ told name named free. refl;
+    }
+first_refused a (why.Report cause) files first = absurd (cc first)
+first_refused a (why.Memory lacked) files first =
+    record {
+      refused = tt;
+      inputs = λ told. tt;
+      left =
+          λ told out name named. inl refl;
+      report_left = λ told name named free. inl refl;
+    }
+
+-- the request was wrong
+pub wrong_refused : (a : Asking) (refusal : Refusal) (files : FilesState) →
+    wrong_with a ≡ Some refusal → IsRefused a refusal files files
+wrong_refused a refusal files wrong = first_refused a refusal files
+    (wrong_first a (settings_of a) (same_name a) (report_is_input a) refusal refl wrong)
+
+-- what holds of the name that was refused, and of the cause
+pub refusable_so : (a : Asking) (P Q : List ℕ → Cause → Type 0) (refusal : Refusal) →
+    ((name : List ℕ) (given : Cause) → P name given → Q name given) → IsRefusable a P refusal →
+    IsRefusable a Q refusal
+refusable_so a P Q (why.Target out given) so refused =
+    (refused.0, refused.1, so refused.0 given refused.2)
+refusable_so a P Q (why.Report given) so refused =
+    (refused.0, refused.1, so refused.0 given refused.2)
+refusable_so a P Q (why.Memory lacked) so refused = refused
+refusable_so a P Q why.Encoding so refused = refused
+refusable_so a P Q (why.Step fault) so refused = refused
+refusable_so a P Q (why.Setting bad) so refused = refused
+refusable_so a P Q (why.SameName out) so refused = refused
+refusable_so a P Q (why.Source side cause) so refused = refused
+refusable_so a P Q why.SameReport so refused = refused
+
+-- a name that may be refused after the inputs are opened
+pub refusable_since : (a : Asking) (old : FilesState) (refuses : Causes) (opened : Names)
+    (refusal : Refusal) → refuses ≡ old.refuses →
+    ((name : List ℕ) → IsTrue (opened name) → MayLead a.inputs old name cause.Input) →
+    IsRefusable a
+    (λ name given. IsTrue (refuses name given) ⊎ ((given ≡ cause.Input) × IsTrue (opened name)))
+    refusal → IsRefusable a (MayLead a.inputs old) refusal
+refusable_since a old refuses opened refusal same led refused =
+    refusable_so a
+    (λ name given. IsTrue (refuses name given) ⊎ ((given ≡ cause.Input) × IsTrue (opened name)))
+    (MayLead a.inputs old) refusal
+    (λ name given. ⊎_elim
+    (λ may. inr (inl (subst (λ (r : Causes). IsTrue (r name given)) same may)))
+    (λ leads. subst (λ (x : Cause). MayLead a.inputs old name x) (sym leads.0)
+    (led name leads.1))) refused
+
+clash : (b : Bool) → IsTrue b → b ≡ false → ⊥
+clash true is none = absurd (cc none)
+clash false is none = absurd (cc is)
+
+if_none : (b : Bool) (out : Out) (rest : Option Out) → (if b then Some out else rest) ≡ None →
+    (b ≡ false) × (rest ≡ None)
+if_none true out rest none = absurd (cc none)
+if_none false out rest none = (refl, none)
+
+log_differs : (a : Asking) (log : Option (List ℕ)) (name : List ℕ) → same_log a log ≡ None →
+    log ≡ Some name → IsTrue (is_input a.inputs name) → ⊥
+log_differs a None name none named is = absurd (cc named)
+log_differs a (Some log) name none named is =
+    let equal : log ≡ name = cc in
+    clash (is_input a.inputs name) is (subst (λ (n : List ℕ). is_input a.inputs n ≡ false) equal
+    (if_none (is_input a.inputs log) Log None none).0)
+
+-- the name of an output is no input's
+differs_from : (a : Asking) (out : Out) (name : List ℕ) → same_name a ≡ None →
+    output_name a out ≡ Some name → IsTrue (is_input a.inputs name) → ⊥
+differs_from a out name none named is =
+    let one = if_none (is_input a.inputs a.forward_paired) ForwardPaired _ none in
+    let two = if_none (is_input a.inputs a.forward_unpaired) ForwardUnpaired _ one.1 in
+    let three = if_none (is_input a.inputs a.reverse_paired) ReversePaired _ two.1 in
+    let four = if_none (is_input a.inputs a.reverse_unpaired) ReverseUnpaired _ three.1 in
+    at_output out one.0 two.0 three.0 four.0 four.1 named
+  where
+    as_named : (own : List ℕ) → Some own ≡ Some name → is_input a.inputs own ≡ false → ⊥
+    as_named own same free = let equal : own ≡ name = cc in
+        clash (is_input a.inputs name) is (subst (λ (n : List ℕ). is_input a.inputs n ≡ false) equal
+        free)
+
+    at_output : (this : Out) → is_input a.inputs a.forward_paired ≡ false →
+        is_input a.inputs a.forward_unpaired ≡ false → is_input a.inputs a.reverse_paired ≡ false →
+        is_input a.inputs a.reverse_unpaired ≡ false
+        → same_log a a.log ≡ None → output_name a this ≡ Some name → ⊥
+    at_output ForwardPaired one two three four log same = as_named a.forward_paired same one
+    at_output ForwardUnpaired one two three four log same = as_named a.forward_unpaired same two
+    at_output ReversePaired one two three four log same = as_named a.reverse_paired same three
+    at_output ReverseUnpaired one two three four log same = as_named a.reverse_unpaired same four
+    at_output Log one two three four log same = log_differs a a.log name log same is
+
+-- nor is the report's
+report_differs : (a : Asking) (name : List ℕ) → report_is_input a ≡ false → a.report ≡ Some name →
+    IsTrue (is_input a.inputs name) → ⊥
+report_differs a name free named is =
+    let P : Option (List ℕ) → Type 0 = λ o. unwrap_or (option_map (is_input a.inputs) o) false
+    ≡ false in
+    clash (is_input a.inputs name) is (subst P named free)
+
+named_input : (inputs : InputNames) (side : Side) →
+    IsTrue (is_input inputs (input_name inputs side))
+named_input inputs Forward =
+    let same : bytes_eq inputs.forward inputs.forward ≡ true =
+    (bytes_eq-Decides inputs.forward inputs.forward).1 refl in
+    ap (λ b. b || bytes_eq inputs.forward inputs.reverse) same
+named_input inputs Reverse =
+    let same : bytes_eq inputs.reverse inputs.reverse ≡ true =
+    (bytes_eq-Decides inputs.reverse inputs.reverse).1 refl in
+    ap (λ b. bytes_eq inputs.reverse inputs.forward || b) same
+    ∙ or-true (bytes_eq inputs.reverse inputs.forward)
+
+-- a name that leads to an input once the inputs are opened is no input's, if the request is right
+no_input : (a : Asking) (P : List ℕ → Cause → Type 0) (refusal : Refusal) → same_name a ≡ None →
+    report_is_input a ≡ false → IsRefusable a
+    (λ name given. ((given ≡ cause.Input) × IsTrue (is_input a.inputs name)) ⊎ P name given)
+    refusal → IsRefusable a P refusal
+no_input a P (why.Target out given) outputs report refused = (
+  refused.0,
+  refused.1,
+  ⊎_elim (λ is. absurd (differs_from a out refused.0 outputs refused.1 is.1))
+      (λ other. other) refused.2,
+)
+no_input a P (why.Report given) outputs report refused = (
+  refused.0,
+  refused.1,
+  ⊎_elim (λ is. absurd (report_differs a refused.0 report refused.1 is.1))
+      (λ other. other) refused.2,
+)
+no_input a P (why.Memory lacked) outputs report refused = refused
+no_input a P why.Encoding outputs report refused = refused
+no_input a P (why.Step fault) outputs report refused = refused
+no_input a P (why.Setting bad) outputs report refused = refused
+no_input a P (why.SameName out) outputs report refused = refused
+no_input a P (why.Source side cause) outputs report refused = refused
+no_input a P why.SameReport outputs report refused = refused
+
+right_names : (a : Asking) (r : Result Choices Refusal) (same : Option Out) (same_report : Bool) →
+    wrong_among r same same_report ≡ None → (same ≡ None) × (same_report ≡ false)
+right_names a (Err bad) same same_report right = absurd (cc right)
+right_names a (Ok c) (Some out) same_report right = absurd (cc right)
+right_names a (Ok c) None true right = absurd (cc right)
+right_names a (Ok c) None false right = (refl, refl)
+
+-- an output or the report of a right request is refused only under a name that may be refused, or
+-- led to an input before
+pub refusable_right : (a : Asking) (old : FilesState) (refusal : Refusal) →
+    wrong_with a ≡ None → IsRefusable a (MayLead a.inputs old) refusal →
+    IsRefusable a (MayRefuse old) refusal
+refusable_right a old refusal right refused =
+    let names = right_names a (settings_of a) (same_name a) (report_is_input a) right in
+    no_input a (MayRefuse old) refusal names.0 names.1 refused
+
+-- if only files of the outputs and of the report have changed, the inputs of a right request have
+-- not
+pub inputs_kept : (a : Asking) (old new : Holding) → wrong_with a ≡ None → KeepsUnnamed a old new →
+    (side : Side) → new (input_name a.inputs side) ≡ old (input_name a.inputs side)
+inputs_kept a old new right kept side =
+    let names = right_names a (settings_of a) (same_name a) (report_is_input a) right in
+    let is = named_input a.inputs side in
+    kept (input_name a.inputs side) (λ out named. differs_from a out _ names.0 named is)
+    (λ named. report_differs a _ names.1 named is)
+
+-- no output leads to an input, and nor does the report
+pub leads_nowhere : (a : Asking) (before after : Names) → after ≡ before
+    → ((out : Out) (name : List ℕ) → output_name a out ≡ Some name → before name ≡ false) →
+    ((name : List ℕ) → a.report ≡ Some name → before name ≡ false) → (name : List ℕ) →
+    IsMade a name → IsTrue (after name) → ⊥
+leads_nowhere a before after same outputs report name made leads =
+    let led : IsTrue (before name) = subst (λ (names : Names). IsTrue (names name)) same leads in
+    ⊎_elim (λ output. clash (before name) led (outputs output.0 name output.1))
+    (λ named. clash (before name) led (report name named)) made
+
+-- ---- which files exist
+
+-- ---- the reverse input
+
+-- it was refused after the forward one was opened, which changed no file
+pub tells_reverse : (inputs : InputNames) (refusal : Refusal) (old mid : FilesState) →
+    IsMemory refusal ⊎ ((given : Cause) × (refusal ≡ why.Source Reverse given)
+    × MayRefuseInput mid (IsTrue (mid.is_open inputs.reverse)) inputs.reverse given) →
+    IsSome (old.bytes inputs.forward) → OnlyOpens old mid →
+    ((name : List ℕ) → name ≢ inputs.forward → IsTrue (mid.is_open name) →
+    MayRefuse old name cause.Input) → TellsInputs inputs refusal old
+tells_reverse inputs refusal old mid (inl memory) there kept linked =
+    let P : Refusal → Type 0 = λ r. TellsInputs inputs r old in
+    subst P (sym memory.1) tt
+tells_reverse inputs refusal old mid (inr source) there kept linked =
+    let P : Refusal → Type 0 = λ r. TellsInputs inputs r old in
+    let refused = source.2 in
+    subst P (sym source.1) (
+      there,
+      record {
+        missing = λ error is. (
+          subst (λ (files : FilesState). IsTrue (files.may_say inputs.reverse error)) kept
+              (refused.missing error is).0,
+          λ told. sym (same_as _ _ kept inputs.reverse)
+              ∙ (refused.missing error is).1 (told_as _ _ kept told),
+        );
+        twice = λ is. ⊎_elim
+            (λ one. let twice : inputs.reverse ≡ inputs.forward = cc in inl twice)
+            (λ other. inr (linked inputs.reverse (λ twice. other (ap Some (sym twice)))
+            (refused.twice is)))
+            (this_or_other (Some inputs.forward) inputs.reverse);
+        no_output = λ is. sym (ap (λ (files : FilesState). files.tells) kept)
+            ∙ refused.no_output is;
+      },
+    )

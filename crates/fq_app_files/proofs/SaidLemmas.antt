@@ -1,0 +1,118 @@
+-- What is said of an outcome.
+use Rattle.std.proofs.Common.{◌≡◌, ◌∙◌, ℕ, IsSome, Option, Some, None, List, refl, sym, ap, subst}
+use Rattle.std.specs.Prelude.{unwrap_or}
+use Rattle.fq_text.specs.Devices.{FeedState}
+use Rattle.fq_text.specs.declared.seen.SystemError.{SystemError}
+use Rattle.fq_text.specs.declared.fault.TextFault.{TextFault}
+use Rattle.fq_files.specs.Holding.{Holding}
+use Rattle.fq_files.specs.States.{Errors, FilesState, MaySay, OnlyStores}
+use Rattle.fq_files.proofs.StateLemmas.{says_as, then_store}
+use Rattle.fq_pair.specs.declared.out.Out.TheVariants.{ForwardPaired, ForwardUnpaired, ReversePaired, ReverseUnpaired, Log}
+use Rattle.fq_pair.specs.Mates.{MateNames}
+use Rattle.fq_pair.specs.declared.side.Side.{Side}
+use Rattle.fq_pair.specs.declared.side.Side.TheVariants.{Forward, Reverse}
+use Rattle.fq_pair.specs.declared.fault.InputFault.TheVariants.{Text, MateMissing, NamesDiffer}
+use Rattle.fq_run_core.specs.declared.outcome.Outcome.{Outcome}
+use Rattle.fq_run_core.specs.declared.outcome.Outcome.TheVariants.{Spawn, Lane, Gate, Memory, Write, Read, Endless, Input, Finished}
+use Rattle.fq_run_core.specs.declared.outlets.Outlets.{Outlets}
+use Rattle.fq_run_core.specs.Endings.{failures_in}
+use Rattle.fq_app_words.specs.Requests.{Asking, InputNames, input_name}
+use Rattle.fq_app_files.specs.Faults.{settled}
+use Rattle.fq_app_files.specs.Seeing.{FailAsTheyDid, InputsMaySay, IsItsError, IsSaid, LookAsTheyAre, OutputsMaySay, seen_when}
+use Rattle.fq_app_files.specs.declared.feeds.InputsSeen.{InputsSeen}
+use Rattle.fq_app_files.specs.declared.seeing.EndingSeen.{EndingSeen}
+
+there : (o : Option FeedState) → (o ≡ None → ⊥) → IsSome o
+there None none = absurd (none refl)
+there (Some x) none = refl
+
+-- a run that was refused a thread has not ended at a fault
+not_spawn : (outcome : Outcome) (side : Side) (fault : TextFault) →
+    settled outcome ≡ Input (Text side fault) → outcome ≡ Spawn → ⊥
+not_spawn outcome side fault is spawn =
+    let bad : Spawn ≡ Input (Text side fault) = sym (ap settled spawn) ∙ is in cc
+
+on_side : (left : Side → Option FeedState) (side : Side) →
+    (failures_in (left Forward) ≡ 0) × (failures_in (left Reverse) ≡ 0) →
+    failures_in (left side) ≡ 0
+on_side left Forward both = both.0
+on_side left Reverse both = both.1
+
+-- what the inputs say is said of them
+pub is_said : (names : InputNames) (old now : Holding) (outcome : Outcome)
+    (left : Side → Option FeedState) (said : InputsSeen) (errors : Outlets (Option SystemError))
+    (unmatched : Option MateNames) (seen : EndingSeen) →
+    seen ≡ seen_when unmatched said errors (settled outcome) →
+    ((side : Side) → left side ≡ None → outcome ≡ Spawn) →
+    ((side : Side) → now (input_name names side) ≡ old (input_name names side)) →
+    LookAsTheyAre names now left said → FailAsTheyDid left said →
+    ((side : Side) (fault : TextFault) → settled outcome ≡ Input (Text side fault) →
+    (failures_in (left Forward) ≡ 0) × (failures_in (left Reverse) ≡ 0)) →
+    IsSaid names old (settled outcome) seen
+is_said names old now outcome left said errors unmatched seen is returned kept looks fails sound =
+    record {
+      look = λ side fault bytes at held.
+          ap (λ (s : EndingSeen). s.look) (is ∙ ap (seen_when unmatched said errors) at)
+          ∙ looks side bytes
+          (there (left side) (λ none. not_spawn outcome side fault at (returned side none)))
+          (kept side ∙ held);
+      no_error = λ side fault at.
+          ap (λ (s : EndingSeen). s.error) (is ∙ ap (seen_when unmatched said errors) at)
+          ∙ fails side (on_side left side (sound side fault at));
+    }
+
+-- where no error is told, each that is told is right
+pub none_said : (may_say : Errors) (named : Option (List ℕ)) (told : Option SystemError) →
+    told ≡ None → MaySay may_say named told
+none_said may_say named told none error is =
+    let bad : None ≡ Some error = sym none ∙ is in absurd cc
+
+-- Four outlets are handed back one after the other, and a fifth or none, and each says what a
+-- device of its output may say.
+module _ (a : Asking) (start one two three four : FilesState)
+    (errors : Outlets (Option SystemError)) (kept_1 : OnlyStores start one)
+    (kept_2 : OnlyStores one two) (kept_3 : OnlyStores two three)
+    (kept_4 : OnlyStores three four) where
+  since : (mid : FilesState) (named : Option (List ℕ)) (told : Option SystemError) →
+      OnlyStores start mid → MaySay mid.may_say named told → MaySay start.may_say named told
+  since mid named told kept =
+      says_as _ mid (λ (may_say : Errors). MaySay may_say named told) kept
+
+  pub four_say : MaySay start.may_say (Some a.forward_paired) errors.forward_paired →
+      MaySay one.may_say (Some a.forward_unpaired) errors.forward_unpaired →
+      MaySay two.may_say (Some a.reverse_paired) errors.reverse_paired →
+      MaySay three.may_say (Some a.reverse_unpaired) errors.reverse_unpaired →
+      MaySay four.may_say a.log (unwrap_or errors.log None) → OutputsMaySay a start.may_say errors
+  four_say first second third fourth log ForwardPaired = first
+  four_say first second third fourth log ForwardUnpaired = since one _ _ kept_1 second
+  four_say first second third fourth log ReversePaired =
+      since two _ _ (then_store start one two kept_1 kept_2) third
+  four_say first second third fourth log ReverseUnpaired =
+      since three _ _ (then_store start two three (then_store start one two kept_1 kept_2) kept_3)
+      fourth
+  four_say first second third fourth log Log =
+      let kept = then_store start two three (then_store start one two kept_1 kept_2) kept_3 in
+      since four _ _ (then_store start three four kept kept_4) log
+
+module _ (a : Asking) (may_say : Errors) (said : InputsSeen) (errors : Outlets (Option SystemError))
+    (unmatched : Option MateNames) (inputs : InputsMaySay a.inputs may_say said)
+    (outputs : OutputsMaySay a may_say errors) where
+  error_when : (outcome : Outcome) →
+      IsItsError a may_say outcome (seen_when unmatched said errors outcome)
+  error_when (Write out) = outputs out
+  error_when (Read side) = inputs side
+  error_when (Input (Text side fault)) = inputs side
+  error_when (Input (MateMissing side k)) = none_said may_say None None refl
+  error_when (Input (NamesDiffer k)) = none_said may_say None None refl
+  error_when (Endless side) = none_said may_say None None refl
+  error_when Spawn = none_said may_say None None refl
+  error_when Lane = none_said may_say None None refl
+  error_when Gate = none_said may_say None None refl
+  error_when Memory = none_said may_say None None refl
+  error_when Finished = none_said may_say None None refl
+
+  -- the error that is told is one of the device that the outcome names
+  pub its_error : (outcome : Outcome) (seen : EndingSeen) →
+      seen ≡ seen_when unmatched said errors outcome → IsItsError a may_say outcome seen
+  its_error outcome seen is =
+      subst (λ (s : EndingSeen). IsItsError a may_say outcome s) (sym is) (error_when outcome)

@@ -1,0 +1,97 @@
+-- What can be said of the outcome of a run.
+use Rattle.std.specs.Prelude.{◌≡◌, ℕ, IsSome, Option, Some, None, List, unwrap_or}
+use Rattle.fq_text.specs.Devices.{FeedState}
+use Rattle.fq_text.specs.declared.fault.TextFault.{TextFault}
+use Rattle.fq_text.specs.Looks.{look_of}
+use Rattle.fq_files.specs.Holding.{Holding}
+use Rattle.fq_files.specs.States.{Errors, MaySay}
+use Rattle.fq_app_words.specs.Requests.{Asking, InputNames, input_name, output_name}
+use Rattle.fq_run_core.specs.Endings.{failures_in}
+use Rattle.fq_text.specs.declared.seen.Look.TheVariants.{Unknown}
+use Rattle.fq_text.specs.declared.seen.Seen.{Seen}
+use Rattle.fq_text.specs.declared.seen.SystemError.{SystemError}
+use Rattle.fq_pair.specs.declared.out.Out.{Out}
+use Rattle.fq_pair.specs.declared.out.Out.TheVariants.{ForwardPaired, ForwardUnpaired, ReversePaired, ReverseUnpaired, Log}
+use Rattle.fq_pair.specs.declared.side.Side.{Side}
+use Rattle.fq_pair.specs.declared.side.Side.TheVariants.{Forward, Reverse}
+use Rattle.fq_pair.specs.declared.fault.InputFault.TheVariants.{Text, NamesDiffer}
+use Rattle.fq_pair.specs.Mates.{MateNames}
+use Rattle.fq_run_core.specs.declared.outcome.Outcome.{Outcome}
+use Rattle.fq_run_core.specs.declared.outcome.Outcome.TheVariants.{Write, Read, Input}
+use Rattle.fq_run_core.specs.declared.outlets.Outlets.{Outlets}
+use Rattle.fq_app_files.specs.declared.feeds.InputsSeen.{InputsSeen}
+use Rattle.fq_app_files.specs.declared.seeing.EndingSeen.{EndingSeen}
+
+-- what the input of a side can say
+abbrev pub input_seen : InputsSeen → Side → Seen
+input_seen inputs Forward = inputs.forward
+input_seen inputs Reverse = inputs.reverse
+
+-- why an output failed, if it did
+abbrev pub error_of : Outlets (Option SystemError) → Out → Option SystemError
+error_of outlets ForwardPaired = outlets.forward_paired
+error_of outlets ForwardUnpaired = outlets.forward_unpaired
+error_of outlets ReversePaired = outlets.reverse_paired
+error_of outlets ReverseUnpaired = outlets.reverse_unpaired
+error_of outlets Log = unwrap_or outlets.log None
+
+-- what an input is said to look like is what its first bytes are, if its feed came back
+abbrev pub LookAsTheyAre : InputNames → Holding → (Side → Option FeedState) → InputsSeen → Type 0
+LookAsTheyAre names files left said = (side : Side) (bytes : List ℕ) → IsSome (left side) →
+    files (input_name names side) ≡ Some bytes → (input_seen said side).look ≡ look_of bytes
+
+-- no error is told of an input that has not failed
+abbrev pub FailAsTheyDid : (Side → Option FeedState) → InputsSeen → Type 0
+FailAsTheyDid left said = (side : Side) → failures_in (left side) ≡ 0 →
+    (input_seen said side).error ≡ None
+
+-- what is said of an input whose text has a fault: it looks like its first bytes, and no error is
+-- told of it
+pub record IsSaid (names : InputNames) (files : Holding) (outcome : Outcome)
+    (seen : EndingSeen) : Type 0 where
+  pub look : (side : Side) (fault : TextFault) (bytes : List ℕ) →
+      outcome ≡ Input (Text side fault) → files (input_name names side) ≡ Some bytes →
+      seen.look ≡ look_of bytes
+  pub no_error : (side : Side) (fault : TextFault) → outcome ≡ Input (Text side fault) →
+      seen.error ≡ None
+
+-- the file that an outcome names: the output that was not written, or the input that could not be
+-- read or has a fault
+abbrev pub file_of : Asking → Outcome → Option (List ℕ)
+file_of a (Write out) = output_name a out
+file_of a (Read side) = Some (input_name a.inputs side)
+file_of a (Input (Text side fault)) = Some (input_name a.inputs side)
+file_of a _ = None
+
+-- an error is told only of the file that the outcome names, and a device of its name may say it
+abbrev pub IsItsError : Asking → Errors → Outcome → EndingSeen → Type 0
+IsItsError a may_say outcome seen = MaySay may_say (file_of a outcome) seen.error
+
+-- so it is with each input
+abbrev pub InputsMaySay : InputNames → Errors → InputsSeen → Type 0
+InputsMaySay names may_say said = (side : Side) →
+    MaySay may_say (Some (input_name names side)) (input_seen said side).error
+
+-- and with each output
+abbrev pub OutputsMaySay : Asking → Errors → Outlets (Option SystemError) → Type 0
+OutputsMaySay a may_say errors = (out : Out) →
+    MaySay may_say (output_name a out) (error_of errors out)
+
+abbrev pub nothing_seen : Seen
+nothing_seen = record { error = None; look = Unknown }
+
+-- what a device can say, and no names
+abbrev pub device_seen : Seen → EndingSeen
+device_seen seen = record { error = seen.error; look = seen.look; unmatched = None }
+
+-- what the device can say that the outcome names: the outlet that failed, or the input that could
+-- not be read or has a fault; or the names that don't match, if they are the fault
+abbrev pub seen_when : Option MateNames → InputsSeen → Outlets (Option SystemError) → Outcome →
+    EndingSeen
+seen_when names inputs outlets (Write out) =
+    device_seen (record { error = error_of outlets out; look = Unknown })
+seen_when names inputs outlets (Read side) = device_seen (input_seen inputs side)
+seen_when names inputs outlets (Input (Text side fault)) = device_seen (input_seen inputs side)
+seen_when names inputs outlets (Input (NamesDiffer k)) =
+    record { error = None; look = Unknown; unmatched = names }
+seen_when names inputs outlets _ = device_seen nothing_seen

@@ -1,0 +1,349 @@
+use Rattle.std.proofs.Common.{◌≡◌, ◌≤◌, ℕ, ◌+◌, List, [], ◌∷◌, sum, arith, ◌++◌, length, take, drop, nat_le, ap, ◌∙◌, ⊎_elim, ◌<◌, min, map, refl, Bool, count_by, ◌||◌, cond, ◌==◌, false, sym, subst, max, true, not, ◌&&◌, fold}
+use Rattle.std.proofs.lemmas.Bool.{cond-true, cond-false, cases_Bool, cases_lt, le-leb, lt-leb, eqb-true}
+use Rattle.std.proofs.lemmas.List.{take-append-drop, length-append, length-take, length-map}
+use Rattle.std.proofs.lemmas.List.Sums.{sum_by-append, sum_by-cons}
+use Rattle.std.specs.List.{sum_by, All}
+use Rattle.std.proofs.lemmas.List.Elements.{All-head, All-tail}
+use Rattle.fq_trim.specs.Sums.{capped_sum}
+use Rattle.fq_report_reads.specs.Rows.{rows_plus, with_one, row_of}
+use Rattle.fq_law_in_step.specs.ReportLists.{most, AddUpTo, ListsAddUp, SideListsAddUp, AreAsLong, SideListsAreAsLong, ReportListsAddUp, ReportListsAreAsLong}
+use Rattle.fq_report_reads.specs.Counting.{by_position, one_if}
+use Rattle.fq_report_reads.specs.Letters.{is_c, is_g, is_gc, is_n}
+use Rattle.fq_report_reads.specs.Courses.{Part, alone, course, whole, survives}
+use Rattle.fq_trim.specs.Keeping.{scores}
+use Rattle.fq_report_reads.specs.declared.columns.Columns.{Columns}
+use Rattle.fq_report_reads.specs.declared.reads.ReadsTally.{ReadsTally}
+use Rattle.fq_report_reads.specs.Columns.{columns_of, columns_plus, no_columns}
+use Rattle.fq_report_reads.specs.SideTallies.{with_part, with_read, no_reads}
+use Rattle.fq_report_reads.specs.SideColumns.{SideColumns, with_before, with_after}
+use Rattle.fq_report_reads.specs.declared.side.SideTally.{SideTally}
+use Rattle.fq_text.specs.Grammar.{Read}
+use Rattle.fq_trim.specs.declared.step.Step.{Step}
+use Rattle.fq_trim.specs.KeptPlaces.{kept_places}
+use Rattle.fq_report_pairs.specs.declared.tally.Tally.{Tally}
+use Rattle.fq_text.specs.declared.encoding.Encoding.{Encoding}
+use Rattle.fq_pair.specs.Mates.{Mates}
+use Rattle.fq_report_pairs.specs.Tallies.{with_pair, no_tally}
+use Rattle.fq_law_in_step.specs.InStep.{IsPairIn}
+use Rattle.fq_law_in_step.proofs.ReportLemmas.{sum-cons, sum_one}
+use Rattle.fq_report_reads.proofs.RowLemmas.{length-rows_plus}
+use Rattle.fq_report_reads.proofs.ColumnLemmas.{OfEach, each_with_read, each_of_none, each_listed}
+use Rattle.fq_report_reads.proofs.LeftLaws.{left_as_kept}
+use Rattle.fq_law_in_step.proofs.reports.report_lists_add_up.Goals as goal
+
+-- Lists of numbers by position: their sums and lengths.
+
+-- lists that are added row by row have the sum of both, if 64 bits can hold it
+sum_plus : (xs ys : List ℕ) → sum xs + sum ys ≤ most → sum (rows_plus xs ys) ≡ sum xs + sum ys
+sum_plus [] ys few = omega arith
+sum_plus (x ∷ xs) [] few = omega arith
+sum_plus (x ∷ xs) (y ∷ ys) few =
+    let left = sum-cons x xs in
+    let right = sum-cons y ys in
+    let rest = sum_plus xs ys (omega arith) in
+    let whole = sum-cons (capped_sum x y) (rows_plus xs ys) in
+    omega arith
+
+-- a total to which numbers add up, and one more number
+added : (total x : ℕ) (xs ys : List ℕ) → AddUpTo total (sum xs) → sum ys ≡ x →
+    AddUpTo (capped_sum total x) (sum (rows_plus xs ys))
+added total x xs ys up is = λ small.
+    let here = up (omega arith) in
+    let both = sum_plus xs ys (omega arith) in
+    omega arith
+
+-- and of two lists that share a total
+added_two : (total x : ℕ) (xs ys us vs : List ℕ) → AddUpTo total (sum xs + sum ys) →
+    sum us + sum vs ≡ x →
+    AddUpTo (capped_sum total x) (sum (rows_plus xs us) + sum (rows_plus ys vs))
+added_two total x xs ys us vs up is = λ small.
+    let here = up (omega arith) in
+    let first = sum_plus xs us (omega arith) in
+    let second = sum_plus ys vs (omega arith) in
+    omega arith
+
+-- a list by position has the same sum as the numbers that it is made of
+sum_placed : (ns : List ℕ) → sum (by_position ns) ≡ sum ns
+sum_placed ns =
+    let few = nat_le (length ns) 10000 in
+    let cut = take 10000 ns ++ (sum (drop 10000 ns) ∷ []) in
+    let id : ℕ → ℕ = λ n. n in
+    let last = sum-cons (sum (drop 10000 ns)) [] in
+    let parts = sum_by-append id (take 10000 ns) (sum (drop 10000 ns) ∷ []) in
+    let whole = sum_by-append id (take 10000 ns) (drop 10000 ns) in
+    let same : sum (take 10000 ns ++ drop 10000 ns) ≡ sum ns = ap sum (take-append-drop 10000 ns) in
+    ⊎_elim
+    (λ is. ap sum (cond-true few ns cut is))
+    (λ is. ap sum (cond-false few ns cut is) ∙ omega arith)
+    (cases_Bool few)
+
+-- a list by position has as many items as there are numbers, but at most 10,001
+length_placed : (ns : List ℕ) → length (by_position ns) ≡ min (length ns) 10001
+length_placed ns =
+    let few = nat_le (length ns) 10000 in
+    let cut = take 10000 ns ++ (sum (drop 10000 ns) ∷ []) in
+    let front = length-take 10000 ns in
+    let all = length-append (take 10000 ns) (sum (drop 10000 ns) ∷ []) in
+    ⊎_elim
+    (λ (long : 10000 < length ns).
+    ap length (cond-false few ns cut (lt-leb (length ns) 10000 long)) ∙ omega arith)
+    (λ (short : length ns ≤ 10000).
+    ap length (cond-true few ns cut (le-leb (length ns) 10000 short)) ∙ omega arith)
+    (cases_lt 10000 (length ns))
+
+sum_map : (f : ℕ → ℕ) (xs : List ℕ) → sum (map f xs) ≡ sum_by f xs
+sum_map f [] = refl
+sum_map f (x ∷ xs) =
+    let rest = sum_map f xs in
+    let left = sum-cons (f x) (map f xs) in
+    let right = sum_by-cons f x xs in
+    omega arith
+
+-- a one for each number adds up to how many numbers there are
+sum_ones : (xs : List ℕ) → sum (map (λ _. 1) xs) ≡ length xs
+sum_ones [] = refl
+sum_ones (x ∷ xs) =
+    let rest = sum_ones xs in
+    let front = sum-cons 1 (map (λ (n : ℕ). 1) xs) in
+    omega arith
+
+-- a one for each number that passes a test adds up to how many pass
+sum_of_those : (p : ℕ → Bool) (xs : List ℕ) → sum (map (one_if p) xs) ≡ count_by p xs
+sum_of_those p xs = sum_map (one_if p) xs
+
+-- a base is C or G, but not both
+abbrev IsOneLetter : ℕ → Type 0
+IsOneLetter b = one_if is_c b + one_if is_g b ≡ one_if is_gc b
+
+abbrev one_of_four : Bool → Bool → Bool → Bool → Type 0
+one_of_four c c' g g' =
+    cond (c || c') 1 0 + cond (g || g') 1 0 ≡ cond ((g || c) || (g' || c')) 1 0
+
+one_letter : (b : ℕ) → IsOneLetter b
+one_letter b = ⊎_elim
+    (λ is. subst IsOneLetter (sym (eqb-true b 67 is)) refl)
+    (λ no_c. ⊎_elim
+    (λ is. subst IsOneLetter (sym (eqb-true b 99 is)) refl)
+    (λ no_c'. ⊎_elim
+    (λ is. subst IsOneLetter (sym (eqb-true b 71 is)) refl)
+    (λ no_g. ⊎_elim
+    (λ is. subst IsOneLetter (sym (eqb-true b 103 is)) refl)
+    (λ no_g'. others no_c no_c' no_g no_g')
+    (cases_Bool (b == 103)))
+    (cases_Bool (b == 71)))
+    (cases_Bool (b == 99)))
+    (cases_Bool (b == 67))
+  where
+    others : (b == 67) ≡ false → (b == 99) ≡ false → (b == 71) ≡ false → (b == 103) ≡ false →
+        IsOneLetter b
+    others c c' g g' =
+        subst (λ w. one_of_four w (b == 99) (b == 71) (b == 103)) (sym c)
+        (subst (λ x. one_of_four false x (b == 71) (b == 103)) (sym c')
+        (subst (λ y. one_of_four false false y (b == 103)) (sym g)
+        (subst (λ z. one_of_four false false false z) (sym g') refl)))
+
+-- the bases that are C and those that are G add up to those that are either
+sum_of_gc : (xs : List ℕ) →
+    sum (map (one_if is_c) xs) + sum (map (one_if is_g) xs) ≡ count_by is_gc xs
+sum_of_gc [] = refl
+sum_of_gc (x ∷ xs) =
+    let rest = sum_of_gc xs in
+    let one = one_letter x in
+    let first = sum-cons (one_if is_c x) (map (one_if is_c) xs) in
+    let second = sum-cons (one_if is_g x) (map (one_if is_g) xs) in
+    let whole = sum_by-cons (λ (b : ℕ). cond (is_gc b) 1 0) x xs in
+    omega arith
+
+one_counted : (reads n : ℕ) (rows : List ℕ) → AddUpTo reads (sum rows) →
+    AddUpTo (capped_sum reads 1) (sum (with_one (row_of n) rows))
+one_counted reads n rows up = λ small.
+    let here = up (omega arith) in
+    let more = sum_one (row_of n) rows (omega arith) in
+    omega arith
+
+-- as many quality bytes as bases
+abbrev Matches : Part → Type 0
+Matches part = length part.qual ≡ length part.seq
+
+list_added : (total x : ℕ) (xs ns : List ℕ) → AddUpTo total (sum xs) → sum ns ≡ x →
+    AddUpTo (capped_sum total x) (sum (rows_plus xs (by_position ns)))
+list_added total x xs ns up is = added total x xs (by_position ns) up (sum_placed ns ∙ is)
+
+sums_more : (part : Part) (t : ReadsTally) (cs : Columns) → ListsAddUp t cs →
+    ListsAddUp (with_part part t) (columns_plus cs (columns_of part))
+sums_more part t cs up =
+    let q = scores part.encoding part.qual in
+    let c = map (one_if is_c) part.seq in
+    let g = map (one_if is_g) part.seq in
+    let gc : sum (by_position c) + sum (by_position g) ≡ count_by is_gc part.seq =
+    let first = sum_placed c in
+    let second = sum_placed g in
+    let both = sum_of_gc part.seq in
+    omega arith in
+    record {
+      lengths = one_counted t.reads (length part.seq) t.lengths up.lengths;
+      bases = list_added t.bases.bases _ cs.bases (map (λ _. 1) part.seq) up.bases
+          (sum_ones part.seq);
+      score_sum = list_added t.bases.score_sum _ cs.score_sum q up.score_sum refl;
+      q30_bases = list_added t.bases.at_least_30 _ cs.q30_bases (map (one_if (nat_le 30)) q)
+          up.q30_bases (sum_of_those (nat_le 30) q);
+      gc_bases = added_two t.bases.gc _ cs.c cs.g (by_position c) (by_position g) up.gc_bases gc;
+      n_bases = list_added t.bases.n _ cs.n (map (one_if is_n) part.seq) up.n_bases
+          (sum_of_those is_n part.seq);
+    }
+
+list_longer : (longest n : ℕ) (xs ns : List ℕ) → length xs ≡ min longest 10001 → length ns ≡ n →
+    length (rows_plus xs (by_position ns)) ≡ min (max longest n) 10001
+list_longer longest n xs ns is size =
+    let both = length-rows_plus xs (by_position ns) in
+    let placed = length_placed ns in
+    omega arith
+
+-- each list by position is as long as the longest read, but has at most 10,001 items
+abbrev Lengths : ℕ → Columns → Type 0
+Lengths longest cs = OfEach (λ list. length list ≡ min longest 10001) cs
+
+lengths_more : (part : Part) (t : ReadsTally) (cs : Columns) → Matches part → Lengths t.longest cs →
+    Lengths (max t.longest (length part.seq)) (columns_plus cs (columns_of part))
+lengths_more part t cs same are =
+    each_with_read (λ list. length list ≡ min t.longest 10001)
+    (λ list. length list ≡ min (max t.longest (length part.seq)) 10001) cs part same
+    (λ xs ns is size. list_longer t.longest (length part.seq) xs ns is size) are
+
+-- One side.
+
+-- the sums hold, and the lengths
+record Both (t : ReadsTally) (cs : Columns) : Type 0 where
+  sums : ListsAddUp t cs
+  lengths : Lengths t.longest cs
+
+both_more : (part : Part) (t : ReadsTally) (cs : Columns) → Matches part → Both t cs →
+    Both (with_part part t) (columns_plus cs (columns_of part))
+both_more part t cs same both = record {
+  sums = sums_more part t cs both.sums;
+  lengths = lengths_more part t cs same both.lengths;
+}
+
+record Side (before paired unpaired : ReadsTally) (cs : SideColumns) : Type 0 where
+  before_both : Both before cs.before
+  paired_both : Both paired cs.paired
+  unpaired_both : Both unpaired cs.unpaired
+
+-- what is counted of a read, if it survives (`s`) and if its mate does (`m`)
+side_more : (s m : Bool) (all left : Part) (before paired unpaired : ReadsTally)
+    (cs : SideColumns) →
+    Matches all → Matches left → Side before paired unpaired cs →
+    Side (with_part all before)
+    (cond (s && m) (with_part left paired) paired)
+    (cond (s && not m) (with_part left unpaired) unpaired)
+    (with_before (columns_of all) (cond s (with_after (columns_of left) m cs) cs))
+side_more true true all left b p u cs same_all same_left side = record {
+  before_both = both_more all b cs.before same_all side.before_both;
+  paired_both = both_more left p cs.paired same_left side.paired_both;
+  unpaired_both = side.unpaired_both;
+}
+side_more true false all left b p u cs same_all same_left side = record {
+  before_both = both_more all b cs.before same_all side.before_both;
+  paired_both = side.paired_both;
+  unpaired_both = both_more left u cs.unpaired same_left side.unpaired_both;
+}
+side_more false m all left b p u cs same_all same_left side = record {
+  before_both = both_more all b cs.before same_all side.before_both;
+  paired_both = side.paired_both;
+  unpaired_both = side.unpaired_both;
+}
+
+abbrev SideOf : SideTally → Type 0
+SideOf t = Side t.before t.paired t.unpaired t.positions
+
+left_matches : (steps : List Step) (read : Read) → length read.qual ≡ length read.seq →
+    Matches (course (alone steps) read).left
+left_matches steps read same =
+    let at = kept_places steps read in
+    subst Matches (sym (left_as_kept steps read same))
+    (length-map at _ ∙ sym (length-map at _))
+
+read_more : (steps : List Step) (read : Read) (m : Bool) (t : SideTally) →
+    length read.qual ≡ length read.seq → SideOf t →
+    SideOf (with_read read (course (alone steps) read) m t)
+read_more steps read m t same side =
+    let left = (course (alone steps) read).left in
+    side_more (survives left) m (whole read) left t.before t.paired t.unpaired t.positions same
+    (left_matches steps read same) side
+
+-- Both sides.
+
+record Sides (t : Tally) : Type 0 where
+  forward : SideOf t.forward
+  reverse : SideOf t.reverse
+
+all_more : (check : Bool) (e : Encoding) (steps : List Step) (ms : List Mates) (t : Tally) →
+    All (IsPairIn check e) ms → Sides t → Sides (fold (with_pair (alone steps)) t ms)
+all_more check e steps [] t are sides = sides
+all_more check e steps (m ∷ ms) t are sides =
+    let pair = All-head (IsPairIn check e) m ms are in
+    all_more check e steps ms (with_pair (alone steps) t m) (All-tail (IsPairIn check e) m ms are)
+    (record {
+      forward = read_more steps m.forward (survives (course (alone steps) m.reverse).left) t.forward
+          pair.forward.lawful.same_len sides.forward;
+      reverse = read_more steps m.reverse (survives (course (alone steps) m.forward).left) t.reverse
+          pair.reverse.lawful.same_len sides.reverse;
+    })
+
+none : Both no_reads no_columns
+none = record {
+  sums = record {
+    lengths = λ small. refl;
+    bases = λ small. refl;
+    score_sum = λ small. refl;
+    q30_bases = λ small. refl;
+    gc_bases = λ small. refl;
+    n_bases = λ small. refl;
+  };
+  lengths = each_of_none (λ list. length list ≡ min no_reads.longest 10001) refl;
+}
+
+no_reads_yet : Sides no_tally
+no_reads_yet = record {
+  forward = record { before_both = none; paired_both = none; unpaired_both = none };
+  reverse = record { before_both = none; paired_both = none; unpaired_both = none };
+}
+
+side_sums : (t : SideTally) → SideOf t → SideListsAddUp t
+side_sums t side = record {
+  before = side.before_both.sums;
+  paired = side.paired_both.sums;
+  unpaired = side.unpaired_both.sums;
+}
+
+listed : (t : ReadsTally) (cs : Columns) → Lengths t.longest cs → AreAsLong t cs
+listed t cs are = each_listed (λ list. length list ≡ min t.longest 10001) cs are
+
+side_lengths : (t : SideTally) → SideOf t → SideListsAreAsLong t
+side_lengths t side = record {
+  before = listed t.before t.positions.before side.before_both.lengths;
+  paired = listed t.paired t.positions.paired side.paired_both.lengths;
+  unpaired = listed t.unpaired t.positions.unpaired side.unpaired_both.lengths;
+}
+
+-- each list of a report adds up to its total, if that is below the largest number of 64 bits
+lists_add_up : ReportListsAddUp
+lists_add_up check e steps ms are =
+    let sides = all_more check e steps ms no_tally are no_reads_yet in
+    let t = fold (with_pair (alone steps)) no_tally ms in
+    (side_sums t.forward sides.forward, side_sums t.reverse sides.reverse)
+
+-- each list by position is as long as the longest read, but has at most 10,001 items
+lists_are_as_long : ReportListsAreAsLong
+lists_are_as_long check e steps ms are =
+    let sides = all_more check e steps ms no_tally are no_reads_yet in
+    let t = fold (with_pair (alone steps)) no_tally ms in
+    (side_lengths t.forward sides.forward, side_lengths t.reverse sides.reverse)
+
+-- each list of a report adds up to its total, if that is below the largest number of 64 bits
+pub returns-clause-sums : goal.returns-clause-sums
+returns-clause-sums c = lists_add_up
+
+-- each list by position is as long as the longest read, but has at most 10,001 items
+pub returns-clause-sizes : goal.returns-clause-sizes
+returns-clause-sizes c = lists_are_as_long

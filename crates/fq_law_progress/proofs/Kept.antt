@@ -1,0 +1,551 @@
+-- What holds in every state that a run reaches.
+use Rattle.std.proofs.Common.{◌≡◌, ◌⊎◌, inl, inr, ⊎_elim, ℕ, suc, ◌+◌, ◌%◌, ◌<◌, ◌≤◌, Bool, true, false, Some, List, [], ◌∷◌, ◌++◌, length, drop, length-append, refl, sym, ap, ◌∙◌, subst, arith}
+use Rattle.std.proofs.lemmas.Bool.{cases_order}
+use Rattle.fq_law_progress.specs.Model.{Run, IsRun, Reply, texts, stop, Doing, takes, answers, empties, left, Seat, Dealer, awaits_start, deals, passes_start, closes, Caller, begins, closes_start, writes, drains, awaits_dealer, awaits_workers, State, closed_lanes, changed, new_seat, start}
+use Rattle.fq_law_progress.specs.Moves.{Move, put_start, close_start, give_up, write, fail_to_write, hear_stop, find_mark, drop_reply, drop_mark, end_drain, join_dealer, join_worker, take_start, find_no_start, deal, end_reading, pass_start, close_blocks, take_block, put_reply, empty_block, leave, May, after, next_reply, with_block, with_block_taken, with_reply, with_reply_taken}
+use Rattle.fq_law_progress.proofs.Seats.{changed_each, below_next}
+use Rattle.fq_law_progress.proofs.Turns.{turn_at, share, share_here, share_away, turn_below, share_less}
+use Rattle.fq_law_progress.proofs.Measure.{one_less, some_reply}
+
+-- Of one seat.
+
+-- the block that a worker has in hand
+abbrev pub in_hand : Doing → ℕ
+in_hand takes = 0
+in_hand (answers r) = 1
+in_hand empties = 0
+in_hand left = 0
+
+-- a stop is among the replies
+abbrev pub has_stop : List Reply → Bool
+has_stop [] = false
+has_stop (texts ∷ rs) = has_stop rs
+has_stop (stop ∷ rs) = true
+
+-- the blocks of a seat whose reply was not taken
+abbrev pub in_seat : Seat → ℕ
+in_seat q = length q.replies + in_hand q.doing + q.blocks
+
+-- Of the blocks that were dealt to it, the replies to some were written. The others are in the
+-- seat, unless a stop is.
+pub record Holds (written dealt : ℕ) (q : Seat) : Type 0 where
+  pub most : written + in_seat q ≤ dealt
+  pub all : (has_stop q.replies ≡ true) ⊎ (dealt ≤ written + in_seat q)
+  -- a worker that empties its lane has a stop among its replies
+  pub stopped : q.doing ≡ empties → has_stop q.replies ≡ true
+
+-- A worker leaves after its lane is closed, and the collector gets its mark after it has left.
+pub record Closes (closed i : ℕ) (q : Seat) : Type 0 where
+  pub over : q.doing ≡ left → i < closed
+  pub told : q.marked ≡ true → q.doing ≡ left
+
+-- a worker that has nothing to do but to find the mark
+abbrev pub IsQuiet : Seat → Type 0
+IsQuiet q = (q.doing ≡ left) ⊎ ((q.doing ≡ takes) × (q.blocks ≡ 0))
+
+-- Of all.
+
+-- each seat has the blocks of its share whose reply was not taken, unless it has a stop
+abbrev pub HoldAll : Run → ℕ → ℕ → (ℕ → Seat) → Type 0
+HoldAll p written dealt seats = (i : ℕ) → i < p.workers →
+    Holds (share p.workers written i) (share p.workers dealt i) (seats i)
+
+-- each worker leaves after its lane of blocks is closed, and its mark is taken after that
+abbrev pub CloseAll : Run → Dealer → (ℕ → Seat) → Type 0
+CloseAll p dealer seats = (i : ℕ) → i < p.workers → Closes (closed_lanes dealer) i (seats i)
+
+-- each worker has nothing to do but to find the mark
+abbrev pub AreQuiet : Run → (ℕ → Seat) → Type 0
+AreQuiet p seats = (i : ℕ) → i < p.workers → IsQuiet (seats i)
+
+-- all threads were started, and the dealer gets its start item
+pub record IsUnderWay (p : Run) (dealer : Dealer) (item : Bool) : Type 0 where
+  pub all : p.started ≡ p.workers
+  pub starts : dealer ≡ awaits_start → item ≡ true
+
+-- the dealer deals no more, or never did
+abbrev pub DealsNoMore : Dealer → Bool → Type 0
+DealsNoMore dealer item = ((dealer ≡ awaits_start) × (item ≡ false)) ⊎ ((k : ℕ)
+    × (dealer ≡ closes k))
+
+-- what holds while this is what the calling thread does next
+abbrev pub Phase : Run → State → Caller → Type 0
+Phase p s begins = s ≡ start
+Phase p s closes_start = IsUnderWay p s.dealer s.start_item × HoldAll p s.written s.dealt s.seats
+Phase p s writes = IsUnderWay p s.dealer s.start_item × HoldAll p s.written s.dealt s.seats
+    × (s.start_mark ≡ true)
+Phase p s drains = IsUnderWay p s.dealer s.start_item × (s.start_mark ≡ true)
+Phase p s awaits_dealer = DealsNoMore s.dealer s.start_item × AreQuiet p s.seats × (s.start_mark
+    ≡ true)
+Phase p s (awaits_workers k) =
+    (s.dealer ≡ closes p.workers) × AreQuiet p s.seats × (k ≤ p.started) × ((i : ℕ) → i < k →
+    (s.seats i).doing ≡ left)
+
+-- what holds in every state that a run reaches
+pub record IsKept (p : Run) (s : State) : Type 0 where
+  pub deal_turn : s.deal_turn ≡ turn_at p.workers s.dealt
+  pub turn : s.turn ≡ turn_at p.workers s.written
+  pub closed : closed_lanes s.dealer ≤ p.workers
+  pub marks : CloseAll p s.dealer s.seats
+  pub phase : Phase p s s.caller
+
+-- The start.
+
+-- it holds at the start
+pub kept_start : (p : Run) → IsKept p start
+kept_start p = record {
+  deal_turn = refl;
+  turn = refl;
+  closed = omega arith;
+  marks = λ i within. record { over = λ e. cc; told = λ e. cc };
+  phase = refl;
+}
+
+-- Moves of a worker.
+
+worker_phase : (p : Run) (s : State) (j : ℕ) (q : Seat) → j < p.workers → ((s ≡ start) → ⊥)
+    → ((c d : ℕ) → Holds c d (s.seats j) → Holds c d q)
+    → (IsQuiet (s.seats j) → IsQuiet q)
+    → ((s.seats j).doing ≡ left → q.doing ≡ left)
+    → (caller : Caller) → Phase p s caller →
+    Phase p (record s { seats = changed j q s.seats }) caller
+worker_phase p s j q within begun holds quiet stays begins ph = absurd (begun ph)
+worker_phase p s j q within begun holds quiet stays closes_start ph = (
+  ph.0,
+  changed_each (λ i seat. i < p.workers →
+      Holds (share p.workers s.written i) (share p.workers s.dealt i) seat) j q s.seats
+      (λ h. holds _ _ (ph.1 j h)) (λ i other. ph.1 i),
+)
+worker_phase p s j q within begun holds quiet stays writes ph = (
+  ph.0,
+  changed_each (λ i seat. i < p.workers →
+      Holds (share p.workers s.written i) (share p.workers s.dealt i) seat) j q s.seats
+      (λ h. holds _ _ (ph.1 j h)) (λ i other. ph.1 i),
+  ph.2,
+)
+worker_phase p s j q within begun holds quiet stays drains ph = ph
+worker_phase p s j q within begun holds quiet stays awaits_dealer ph = (
+  ph.0,
+  changed_each (λ i seat. i < p.workers →
+      IsQuiet seat) j q s.seats (λ h. quiet (ph.1 j h)) (λ i other. ph.1 i),
+  ph.2,
+)
+worker_phase p s j q within begun holds quiet stays (awaits_workers k) ph = (
+  ph.0,
+  changed_each (λ i seat. i < p.workers →
+      IsQuiet seat) j q s.seats (λ h. quiet (ph.1 j h)) (λ i other. ph.1 i),
+  ph.2,
+  changed_each
+      (λ i seat. i < k → seat.doing ≡ left) j q s.seats (λ h. stays (ph.3 j h)) (λ i other. ph.3
+      i),
+)
+
+worker_moves : (p : Run) (s : State) (j : ℕ) (q : Seat) → IsKept p s → j < p.workers →
+    ((s ≡ start) → ⊥)
+    → (Closes (closed_lanes s.dealer) j (s.seats j) → Closes (closed_lanes s.dealer) j q)
+    → ((c d : ℕ) → Holds c d (s.seats j) → Holds c d q)
+    → (IsQuiet (s.seats j) → IsQuiet q)
+    → ((s.seats j).doing ≡ left → q.doing ≡ left)
+    → IsKept p (record s { seats = changed j q s.seats })
+worker_moves p s j q kept within begun ends holds quiet stays = record {
+  deal_turn = kept.deal_turn;
+  turn = kept.turn;
+  closed = kept.closed;
+  marks = changed_each (λ i seat. i < p.workers →
+      Closes (closed_lanes s.dealer) i seat) j q s.seats (λ h. ends (kept.marks j h))
+      (λ i other. kept.marks i);
+  phase = worker_phase p s j q within begun holds quiet stays s.caller kept.phase;
+}
+
+-- Moves of the dealer that change no lane of blocks but by a mark.
+
+dealer_phase : (p : Run) (s : State) (d : Dealer) → ((s ≡ start) → ⊥) → (d ≡ awaits_start → ⊥)
+    → (DealsNoMore s.dealer s.start_item → DealsNoMore d s.start_item)
+    → (s.dealer ≡ closes p.workers → d ≡ closes p.workers)
+    → (caller : Caller) → Phase p s caller → Phase p (record s { dealer = d }) caller
+dealer_phase p s d begun on no_more ended begins ph = absurd (begun ph)
+dealer_phase p s d begun on no_more ended closes_start ph =
+    (record { all = ph.0.all; starts = λ e. absurd (on e) }, ph.1)
+dealer_phase p s d begun on no_more ended writes ph =
+    (record { all = ph.0.all; starts = λ e. absurd (on e) }, ph.1, ph.2)
+dealer_phase p s d begun on no_more ended drains ph =
+    (record { all = ph.0.all; starts = λ e. absurd (on e) }, ph.1)
+dealer_phase p s d begun on no_more ended awaits_dealer ph = (no_more ph.0, ph.1, ph.2)
+dealer_phase p s d begun on no_more ended (awaits_workers k) ph = (ended ph.0, ph.1, ph.2, ph.3)
+
+dealer_moves : (p : Run) (s : State) (d : Dealer) → IsKept p s → ((s ≡ start) → ⊥) →
+    (d ≡ awaits_start → ⊥)
+    → closed_lanes d ≤ p.workers → closed_lanes s.dealer ≤ closed_lanes d
+    → (DealsNoMore s.dealer s.start_item → DealsNoMore d s.start_item)
+    → (s.dealer ≡ closes p.workers → d ≡ closes p.workers)
+    → IsKept p (record s { dealer = d })
+dealer_moves p s d kept begun on few more no_more ended = record {
+  deal_turn = kept.deal_turn;
+  turn = kept.turn;
+  closed = few;
+  marks = λ i within. record {
+    over = λ e. (let h = (kept.marks i within).over e in
+        omega (arith, h, more));
+    told = (kept.marks i within).told;
+  };
+  phase = dealer_phase p s d begun on no_more ended s.caller kept.phase;
+}
+
+-- What each move does to a seat.
+
+taken_holds : (c d : ℕ) (q : Seat) (r : Reply) → q.doing ≡ takes → 0 < q.blocks → Holds c d q →
+    Holds c d (with_block_taken q (answers r))
+taken_holds c d q r e some h =
+    let same : in_seat (with_block_taken q (answers r)) ≡ in_seat q = omega (arith, ap in_hand e) in
+    record {
+      most = omega (arith, same, h.most);
+      all =
+          ⊎_elim (λ x. inl x) (λ x. inr (omega (arith, same, x))) h.all;
+      stopped = λ x. cc;
+    }
+
+stop_stays : (rs : List Reply) (r : Reply) → has_stop rs ≡ true → has_stop (rs ++ r ∷ []) ≡ true
+stop_stays [] r h = cc
+stop_stays (texts ∷ rs) r h = stop_stays rs r h
+stop_stays (stop ∷ rs) r h = refl
+
+stop_comes : (rs : List Reply) → has_stop (rs ++ stop ∷ []) ≡ true
+stop_comes [] = refl
+stop_comes (texts ∷ rs) = stop_comes rs
+stop_comes (stop ∷ rs) = refl
+
+answered_holds : (c d : ℕ) (q : Seat) (r : Reply) → q.doing ≡ answers r → Holds c d q →
+    Holds c d (with_reply q r)
+answered_holds c d q texts e h =
+    let same : in_seat (with_reply q texts) ≡ in_seat q =
+    omega (arith, ap in_hand e, length-append q.replies (texts ∷ [])) in
+    record {
+      most = omega (arith, same, h.most);
+      all =
+          ⊎_elim (λ x. inl (stop_stays q.replies texts x)) (λ x. inr (omega (arith, same, x)))
+          h.all;
+      stopped = λ x. cc;
+    }
+answered_holds c d q stop e h =
+    let same : in_seat (with_reply q stop) ≡ in_seat q =
+    omega (arith, ap in_hand e, length-append q.replies (stop ∷ [])) in
+    record {
+      most = omega (arith, same, h.most);
+      all = inl (stop_comes q.replies);
+      stopped =
+          λ x. stop_comes q.replies;
+    }
+
+emptied_holds : (c d : ℕ) (q : Seat) → q.doing ≡ empties → 0 < q.blocks → Holds c d q →
+    Holds c d (with_block_taken q empties)
+emptied_holds c d q e some h = record {
+  most = omega (arith, ap in_hand e, h.most);
+  all =
+      inl (h.stopped e);
+  stopped = λ x. h.stopped e;
+}
+
+in_hand_none : (x : Doing) → (x ≡ takes) ⊎ (x ≡ empties) → in_hand x ≡ 0
+in_hand_none x (inl e) = ap in_hand e
+in_hand_none x (inr e) = ap in_hand e
+
+left_holds : (c d : ℕ) (q : Seat) → (q.doing ≡ takes) ⊎ (q.doing ≡ empties) → Holds c d q →
+    Holds c d (record q { doing = left })
+left_holds c d q e h =
+    let same : in_seat (record q { doing = left }) ≡ in_seat q =
+    omega (arith, in_hand_none q.doing e) in
+    record {
+      most = omega (arith, same, h.most);
+      all =
+          ⊎_elim (λ x. inl x) (λ x. inr (omega (arith, same, x))) h.all;
+      stopped = λ x. cc;
+    }
+
+-- a worker that has neither left nor leaves now
+working_closes : (k i : ℕ) (q q' : Seat) → (q.doing ≡ left → ⊥) → (q'.doing ≡ left → ⊥) →
+    q'.marked ≡ q.marked → Closes k i q → Closes k i q'
+working_closes k i q q' before later same h =
+    record { over = λ e. absurd (later e); told = λ e. absurd (before (h.told (sym same ∙ e))) }
+
+answered_closes : (k i : ℕ) (q : Seat) (r : Reply) → q.doing ≡ answers r → Closes k i q →
+    Closes k i (with_reply q r)
+answered_closes k i q texts e h = working_closes k i q (with_reply q texts) (λ x. cc) (λ x. cc) refl
+    h
+answered_closes k i q stop e h = working_closes k i q (with_reply q stop) (λ x. cc) (λ x. cc) refl h
+
+-- Moves of the dealer and the collector.
+
+dealt_holds : (c d : ℕ) (q : Seat) → Holds c d q → Holds c (suc d) (with_block q)
+dealt_holds c d q h = record {
+  most = omega (arith, h.most);
+  all =
+      ⊎_elim (λ x. inl x) (λ x. inr (omega (arith, x))) h.all;
+  stopped = h.stopped;
+}
+
+stop_behind : (rs : List Reply) → next_reply rs ≡ Some texts → has_stop (drop 1 rs) ≡ has_stop rs
+stop_behind [] e = cc
+stop_behind (texts ∷ rs) e = refl
+stop_behind (stop ∷ rs) e = cc
+
+wrote_holds : (c d : ℕ) (q : Seat) → next_reply q.replies ≡ Some texts → Holds c d q →
+    Holds (suc c) d (with_reply_taken q)
+wrote_holds c d q e h =
+    let less = one_less q.replies (some_reply texts q.replies e) in
+    let behind = stop_behind q.replies e in
+    record {
+      most = omega (arith, less, h.most);
+      all =
+          ⊎_elim (λ x. inl (behind ∙ x)) (λ x. inr (omega (arith, less, x))) h.all;
+      stopped =
+          λ x. behind ∙ h.stopped x;
+    }
+
+share_next : (workers n t : ℕ) → t ≡ turn_at workers n →
+    share workers (suc n) t ≡ suc (share workers n t)
+share_next workers n t e = subst (λ k. share workers (suc n) k ≡ suc (share workers n k)) (sym e)
+    (share_here workers n)
+
+share_same : (workers n t i : ℕ) → t ≡ turn_at workers n → (i ≡ t → ⊥) →
+    share workers (suc n) i ≡ share workers n i
+share_same workers n t i e other = share_away workers n i (λ x. other (x ∙ sym e))
+
+deals_all : (p : Run) (s : State) → s.deal_turn ≡ turn_at p.workers s.dealt →
+    HoldAll p s.written s.dealt s.seats → HoldAll p s.written (suc s.dealt)
+    (changed s.deal_turn (with_block (s.seats s.deal_turn)) s.seats)
+deals_all p s turn all =
+    changed_each (λ i seat. i < p.workers → Holds (share p.workers s.written i)
+    (share p.workers (suc s.dealt) i) seat) s.deal_turn (with_block (s.seats s.deal_turn))
+    s.seats
+    (λ h. rw (share_next p.workers s.dealt s.deal_turn turn)
+    (dealt_holds _ _ (s.seats s.deal_turn) (all s.deal_turn h)))
+    (λ i other h. rw (share_same p.workers s.dealt s.deal_turn i turn other) (all i h))
+
+writes_all : (p : Run) (s : State) → s.turn ≡ turn_at p.workers s.written →
+    next_reply (s.seats s.turn).replies ≡ Some texts → HoldAll p s.written s.dealt s.seats →
+    HoldAll p (suc s.written) s.dealt (changed s.turn (with_reply_taken (s.seats s.turn)) s.seats)
+writes_all p s turn next all =
+    changed_each (λ i seat. i < p.workers → Holds (share p.workers (suc s.written) i)
+    (share p.workers s.dealt i) seat) s.turn (with_reply_taken (s.seats s.turn)) s.seats
+    (λ h. rw (share_next p.workers s.written s.turn turn)
+    (wrote_holds _ _ (s.seats s.turn) next (all s.turn h)))
+    (λ i other h. rw (share_same p.workers s.written s.turn i turn other) (all i h))
+
+no_more_deals : (d : Dealer) (item : Bool) → d ≡ deals → DealsNoMore d item → ⊥
+no_more_deals d item e (inl h) = (let a = h.0 in cc)
+no_more_deals d item e (inr h) = (let a = h.1 in cc)
+
+deal_phase : (p : Run) (s : State) → s.dealer ≡ deals → s.deal_turn ≡ turn_at p.workers s.dealt →
+    (caller : Caller) → Phase p s caller → Phase p (after p s deal) caller
+deal_phase p s e turn begins ph = (let a : s.dealer ≡ awaits_start =
+    ap (λ (x : State). x.dealer) ph in cc)
+deal_phase p s e turn closes_start ph = (ph.0, deals_all p s turn ph.1)
+deal_phase p s e turn writes ph = (ph.0, deals_all p s turn ph.1, ph.2)
+deal_phase p s e turn drains ph = ph
+deal_phase p s e turn awaits_dealer ph = absurd (no_more_deals s.dealer s.start_item e ph.0)
+deal_phase p s e turn (awaits_workers k) ph = (let a = ph.0 in cc)
+
+-- a seat with a reply taken, or with its mark taken
+taken_closes : (k i : ℕ) (q : Seat) → Closes k i q → Closes k i (with_reply_taken q)
+taken_closes k i q h = record { over = h.over; told = h.told }
+
+marked_closes : (k i : ℕ) (q : Seat) → q.doing ≡ left → Closes k i q →
+    Closes k i (record q { marked = true })
+marked_closes k i q e h = record { over = h.over; told = λ x. e }
+
+with_block_closes : (k i : ℕ) (q : Seat) → Closes k i q → Closes k i (with_block q)
+with_block_closes k i q h = record { over = h.over; told = h.told }
+
+close_all : (p : Run) (d : Dealer) (seats : ℕ → Seat) (j : ℕ) (q : Seat) → CloseAll p d seats →
+    (Closes (closed_lanes d) j (seats j) → Closes (closed_lanes d) j q) →
+    CloseAll p d (changed j q seats)
+close_all p d seats j q all here = changed_each (λ i seat. i < p.workers →
+    Closes (closed_lanes d) i seat) j q seats (λ h. here (all j h)) (λ i other. all i)
+
+closed_by : (d : Dealer) → 0 < closed_lanes d → (k : ℕ) × (d ≡ closes k)
+closed_by awaits_start h = absurd (omega arith)
+closed_by deals h = absurd (omega arith)
+closed_by passes_start h = absurd (omega arith)
+closed_by (closes k) h = (k, refl)
+
+start_holds : Holds 0 0 new_seat
+start_holds = record { most = omega arith; all = inr (omega arith); stopped = λ e. cc }
+
+start_share : (workers i : ℕ) → Holds (share workers 0 i) (share workers 0 i) new_seat
+start_share workers i = start_holds
+
+-- Moves of the calling thread: those that change no seat, and those that take from one.
+
+caller_moves : (p : Run) (s : State) (c : Caller) (item mark : Bool) → IsKept p s →
+    Phase p (record s { caller = c; start_item = item; start_mark = mark }) c →
+    IsKept p (record s { caller = c; start_item = item; start_mark = mark })
+caller_moves p s c item mark kept ph = record {
+  deal_turn = kept.deal_turn;
+  turn =
+      kept.turn;
+  closed = kept.closed;
+  marks = kept.marks;
+  phase = ph;
+}
+
+takes_from : (p : Run) (s : State) (c : Caller) (j : ℕ) (q : Seat) → IsKept p s →
+    (Closes (closed_lanes s.dealer) j (s.seats j) → Closes (closed_lanes s.dealer) j q) →
+    Phase p (record s { caller = c; seats = changed j q s.seats }) c →
+    IsKept p (record s { caller = c; seats = changed j q s.seats })
+takes_from p s c j q kept ends ph = record {
+  deal_turn = kept.deal_turn;
+  turn = kept.turn;
+  closed = kept.closed;
+  marks = close_all p s.dealer s.seats j q kept.marks ends;
+  phase = ph;
+}
+
+-- All moves.
+
+-- and it still holds after every move that can be made
+pub keeps : (p : Run) (s : State) (m : Move) → IsRun p → IsKept p s → May p s m →
+    IsKept p (after p s m)
+keeps p s put_start run kept may =
+    let e : s ≡ start = subst (Phase p s) may.0 kept.phase in
+    caller_moves p s closes_start true s.start_mark kept (
+      record { all = may.1; starts = λ x. refl },
+      subst (λ (x : State). HoldAll p x.written x.dealt
+          x.seats) (sym e) (λ i h. start_share p.workers i),
+    )
+keeps p s give_up run kept may =
+    let e : s ≡ start = subst (Phase p s) may.0 kept.phase in
+    caller_moves p s awaits_dealer s.start_item true kept (
+      inl (ap (λ (x : State). x.dealer) e, ap (λ (x : State). x.start_item) e),
+      subst
+          (λ (x : State). AreQuiet p x.seats) (sym e) (λ i h. inr (refl, refl)),
+      refl,
+    )
+keeps p s close_start run kept may =
+    let ph : Phase p s closes_start = subst (Phase p s) may kept.phase in
+    caller_moves p s writes s.start_item true kept (ph.0, ph.1, refl)
+keeps p s write run kept may =
+    let ph : Phase p s writes = subst (Phase p s) may.0 kept.phase in
+    record {
+      deal_turn = kept.deal_turn;
+      turn = ap (λ t. suc t % p.workers) kept.turn;
+      closed = kept.closed;
+      marks = close_all p s.dealer s.seats s.turn (with_reply_taken (s.seats s.turn)) kept.marks
+          (taken_closes _ _ (s.seats s.turn));
+      phase = subst (Phase p (after p s write)) (sym may.0)
+          (let x : Phase p (after p s write) writes =
+          (ph.0, writes_all p s kept.turn may.2 ph.1, ph.2) in x);
+    }
+keeps p s fail_to_write run kept may =
+    let ph : Phase p s writes = subst (Phase p s) may.0 kept.phase in
+    takes_from p s drains s.turn (with_reply_taken (s.seats s.turn)) kept
+    (taken_closes _ _ (s.seats s.turn)) (ph.0, ph.2)
+keeps p s hear_stop run kept may =
+    let ph : Phase p s writes = subst (Phase p s) may.0 kept.phase in
+    takes_from p s drains s.turn (with_reply_taken (s.seats s.turn)) kept
+    (taken_closes _ _ (s.seats s.turn)) (ph.0, ph.2)
+keeps p s find_mark run kept may =
+    let ph : Phase p s writes = subst (Phase p s) may.0 kept.phase in
+    takes_from p s drains s.turn (record (s.seats s.turn) { marked = true }) kept
+    (marked_closes _ _ (s.seats s.turn) may.2.closed) (ph.0, ph.2)
+keeps p s (drop_reply j) run kept may =
+    takes_from p s s.caller j (with_reply_taken (s.seats j)) kept (taken_closes _ _ (s.seats j))
+    (subst (Phase p (after p s (drop_reply j))) (sym may.0) (let ph : Phase p s drains =
+    subst (Phase p s) may.0 kept.phase in ph))
+keeps p s (drop_mark j) run kept may =
+    takes_from p s s.caller j (record (s.seats j) { marked = true }) kept
+    (marked_closes _ _ (s.seats j) may.3.closed)
+    (subst (Phase p (after p s (drop_mark j))) (sym may.0) (let ph : Phase p s drains =
+    subst (Phase p s) may.0 kept.phase in ph))
+keeps p s end_drain run kept may =
+    let ph : Phase p s drains = subst (Phase p s) may.0 kept.phase in
+    let first : 0 < p.workers = omega (arith, run.some_workers) in
+    let over = (kept.marks 0 first).over ((kept.marks 0 first).told (may.1 0 first)) in
+    caller_moves p s awaits_dealer s.start_item s.start_mark kept
+    (inr (closed_by s.dealer over), (λ i h. inl ((kept.marks i h).told (may.1 i h))), ph.1)
+keeps p s join_dealer run kept may =
+    let ph : Phase p s awaits_dealer = subst (Phase p s) may.0 kept.phase in
+    caller_moves p s (awaits_workers 0) s.start_item s.start_mark kept
+    (may.1, ph.1, omega arith, λ i h. absurd (omega arith))
+keeps p s (join_worker k) run kept may =
+    let ph : Phase p s (awaits_workers k) = subst (Phase p s) may.0 kept.phase in
+    caller_moves p s (awaits_workers (suc k)) s.start_item s.start_mark kept
+    (ph.0, ph.1, may.1, below_next (λ i. (s.seats i).doing ≡ left) k ph.3 may.2)
+keeps p s take_start run kept may =
+    dealer_moves p s deals kept (λ e. (let a = ap (λ (x : State). x.start_item) e in let b =
+    may.1 in cc)) (λ e. cc) (omega arith) (omega (arith, ap closed_lanes may.0))
+    (⊎_elim (λ h. (let a = h.1 in let b = may.1 in cc)) (λ h. (let a = h.1 in let b = may.0 in cc)))
+    (λ e. (let b = may.0 in cc))
+keeps p s find_no_start run kept may =
+    dealer_moves p s (closes 0) kept (λ e. (let a = ap (λ (x : State). x.start_mark) e in let b =
+    may.2 in cc)) (λ e. cc) (omega arith) (omega (arith, ap closed_lanes may.0))
+    (λ h. inr (0, refl)) (λ e. (let b = may.0 in cc))
+keeps p s deal run kept may =
+    record {
+      deal_turn = ap (λ t. suc t % p.workers) kept.deal_turn;
+      turn = kept.turn;
+      closed = kept.closed;
+      marks = close_all p s.dealer s.seats s.deal_turn (with_block (s.seats s.deal_turn)) kept.marks
+          (with_block_closes _ _ (s.seats s.deal_turn));
+      phase = deal_phase p s may.0 kept.deal_turn s.caller kept.phase;
+    }
+keeps p s end_reading run kept may =
+    dealer_moves p s passes_start kept (λ e. (let a = ap (λ (x : State). x.dealer) e in let b =
+    may.0 in cc)) (λ e. cc) (omega arith) (omega (arith, ap closed_lanes may.0))
+    (λ h. absurd (no_more_deals s.dealer s.start_item may.0 h)) (λ e. (let b = may.0 in cc))
+keeps p s pass_start run kept may =
+    dealer_moves p s (closes 0) kept (λ e. (let a = ap (λ (x : State). x.dealer) e in let b =
+    may.0 in cc)) (λ e. cc) (omega arith) (omega (arith, ap closed_lanes may.0))
+    (λ h. inr (0, refl)) (λ e. (let b = may.0 in cc))
+keeps p s (close_blocks k) run kept may =
+    dealer_moves p s (closes (suc k)) kept (λ e. (let a = ap (λ (x : State). x.dealer) e in let b =
+    may.0 in cc)) (λ e. cc) (omega (arith, may.1)) (omega (arith, ap closed_lanes may.0))
+    (λ h. inr (suc k, refl))
+    (λ e. absurd (omega (arith, may.1, ap closed_lanes may.0, ap closed_lanes e)))
+keeps p s (take_block j r) run kept may =
+    let q = s.seats j in
+    worker_moves p s j (with_block_taken q (answers r)) kept (omega (arith, may.0, run.few_threads))
+    (λ e. absurd (omega (arith, may.2, ap (λ (x : State). (x.seats j).blocks) e)))
+    (working_closes _ j q (with_block_taken q (answers r)) (λ e. (let b = may.1 in cc)) (λ e. cc)
+    refl)
+    (λ c d. taken_holds c d q r may.1 may.2)
+    (⊎_elim (λ e. (let b = may.1 in cc)) (λ h. absurd (omega (arith, h.1, may.2))))
+    (λ e. (let b = may.1 in cc))
+keeps p s (put_reply j r) run kept may =
+    let q = s.seats j in
+    worker_moves p s j (with_reply q r) kept (omega (arith, may.0, run.few_threads)) (λ e. (let a =
+    ap (λ (x : State). (x.seats j).doing) e in let b = may.1 in cc))
+    (answered_closes _ j q r may.1)
+    (λ c d. answered_holds c d q r may.1)
+    (⊎_elim (λ e. (let b = may.1 in cc)) (λ h. (let a = h.0 in let b = may.1 in cc)))
+    (λ e. (let b = may.1 in cc))
+keeps p s (empty_block j) run kept may =
+    let q = s.seats j in
+    worker_moves p s j (with_block_taken q empties) kept (omega (arith, may.0, run.few_threads))
+    (λ e. absurd (omega (arith, may.2, ap (λ (x : State). (x.seats j).blocks) e)))
+    (working_closes _ j q (with_block_taken q empties) (λ e. (let b = may.1 in cc)) (λ e. cc) refl)
+    (λ c d. emptied_holds c d q may.1 may.2)
+    (⊎_elim (λ e. (let b = may.1 in cc)) (λ h. absurd (omega (arith, h.1, may.2))))
+    (λ e. (let b = may.1 in cc))
+keeps p s (leave j) run kept may =
+    let q = s.seats j in
+    worker_moves p s j (record q { doing = left }) kept (omega (arith, may.0, run.few_threads))
+    (λ e. absurd (omega (arith, may.3, ap (λ (x : State). closed_lanes x.dealer) e)))
+    (λ h. record { over = λ e. may.3; told = λ e. refl })
+    (λ c d. left_holds c d q may.1)
+    (λ h. inl refl)
+    (λ e. refl)
+
+-- If all that was dealt to the worker in turn was written, so was all that was dealt.
+pub all_written : (p : Run) (s : State) → IsRun p → IsKept p s →
+    HoldAll p s.written s.dealt s.seats → share p.workers s.dealt s.turn ≤ share p.workers s.written
+    s.turn → s.written ≡ s.dealt
+all_written p s run kept holds few = ⊎_elim
+    (λ e. e)
+    (⊎_elim
+    (λ h. (let less = share_less p.workers s.written s.dealt h in let less' =
+    rw (← kept.turn) at less in absurd (omega (arith, less', few))))
+    (λ h. (let less = share_less p.workers s.dealt s.written h in
+    let t = turn_at p.workers s.dealt in
+    let most = (holds t (turn_below p.workers s.dealt run.some_workers)).most in
+    absurd (omega (arith, less, most)))))
+    (cases_order s.written s.dealt)

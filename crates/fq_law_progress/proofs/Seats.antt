@@ -1,0 +1,65 @@
+-- Seats of which one is changed.
+use Rattle.std.proofs.Common.{◌≡◌, ℕ, zero, suc, ◌+◌, ◌<◌, ◌≤◌, Bool, true, false, cond, ◌==◌, eqb-true, refl, sym, ap, ◌∙◌, subst, arith, below_more}
+use Rattle.std.proofs.lemmas.Bool.{eqb-false, ne_eqb}
+use Rattle.std.proofs.lemmas.Bool.Decides.{nat_tests}
+use Rattle.fq_law_progress.specs.Model.{Seat, changed}
+use Rattle.fq_law_progress.specs.Progress.{seat_left, seats_left}
+
+same_number : (j : ℕ) → (j == j) ≡ true
+same_number j = grind (arith, nat_tests)
+
+-- at each number it is the new seat, or the old one at another number
+each_by : (P : ℕ → Seat → Type 0) (j : ℕ) (q : Seat) (seats : ℕ → Seat) (i : ℕ) (b : Bool) →
+    (i == j) ≡ b → P j q → ((i ≡ j → ⊥) → P i (seats i)) → P i (cond b q (seats i))
+each_by P j q seats i true e here away = subst (λ k. P k q) (sym (eqb-true i j e)) here
+each_by P j q seats i false e here away = away (eqb-false i j e)
+
+-- what holds of the changed seat, and of the old ones at other numbers, holds at each number
+pub changed_each : (P : ℕ → Seat → Type 0) (j : ℕ) (q : Seat) (seats : ℕ → Seat) → P j q →
+    ((i : ℕ) → (i ≡ j → ⊥) → P i (seats i)) → (i : ℕ) → P i (changed j q seats i)
+changed_each P j q seats here away i = each_by P j q seats i (i == j) refl here (away i)
+
+changed_here : (j : ℕ) (q : Seat) (seats : ℕ → Seat) → changed j q seats j ≡ q
+changed_here j q seats = ap (λ b. cond b q (seats j)) (same_number j)
+
+changed_away : (j : ℕ) (q : Seat) (seats : ℕ → Seat) (i : ℕ) → (i ≡ j → ⊥) →
+    changed j q seats i ≡ seats i
+changed_away j q seats i other = ap (λ b. cond b q (seats i)) (ne_eqb i j other)
+
+left_outside : (n j : ℕ) (q : Seat) (seats : ℕ → Seat) → n ≤ j →
+    seats_left n (changed j q seats) ≡ seats_left n seats
+left_outside zero j q seats h = refl
+left_outside (suc n) j q seats h =
+    let rest = left_outside n j q seats (omega arith) in
+    let here = ap seat_left (changed_away j q seats n (λ e. absurd (omega arith))) in
+    omega (arith, rest, here)
+
+left_by : (n j : ℕ) (q : Seat) (seats : ℕ → Seat) → j < suc n →
+    ((j < n) → seats_left n (changed j q seats) + seat_left (seats j) ≡ seats_left n
+    seats + seat_left q)
+    → (b : Bool) → (n == j) ≡ b → seats_left (suc n) (changed j q seats) + seat_left (seats j)
+    ≡ seats_left (suc n) seats + seat_left q
+left_by n j q seats h below true e =
+    let same : n ≡ j = eqb-true n j e in
+    let rest = left_outside n j q seats (omega (arith, same)) in
+    let here : seat_left (changed j q seats n) ≡ seat_left q =
+    ap (λ k. seat_left (changed j q seats k)) same ∙ ap seat_left (changed_here j q seats) in
+    let there : seat_left (seats n) ≡ seat_left (seats j) = ap (λ k. seat_left (seats k)) same in
+    omega (arith, rest, here, there)
+left_by n j q seats h below false e =
+    let other : n ≡ j → ⊥ = eqb-false n j e in
+    let rest = below (omega (arith, other)) in
+    let here : seat_left (changed j q seats n) ≡ seat_left (seats n) =
+    ap seat_left (changed_away j q seats n other) in
+    omega (arith, rest, here)
+
+-- a seat that is changed changes the sum
+pub left_changed : (n j : ℕ) (q : Seat) (seats : ℕ → Seat) → j < n →
+    seats_left n (changed j q seats) + seat_left (seats j) ≡ seats_left n seats + seat_left q
+left_changed zero j q seats h = absurd (omega arith)
+left_changed (suc n) j q seats h = left_by n j q seats h (left_changed n j q seats) (n == j) refl
+
+-- what holds below a number and at it
+pub below_next : (P : ℕ → Type 0) (k : ℕ) → ((i : ℕ) → i < k → P i) → P k → (i : ℕ) → i < suc k →
+    P i
+below_next P k below here i h = below_more P k below here i (omega arith)

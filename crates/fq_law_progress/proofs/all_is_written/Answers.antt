@@ -1,0 +1,288 @@
+use Rattle.std.proofs.Common.{Bool, true, false, ◌≡◌, ℕ, ◌≤◌, ◌⊎◌, ◌<◌, inl, refl, arith, List, [], ◌∷◌, drop, ◌++◌, ap, Some, ⊎_elim, length, ◌∙◌, subst, inr, sym, suc}
+use Rattle.fq_law_progress.specs.Model.{texts, stop, Doing, takes, answers, empties, left, Seat, Run, Dealer, awaits_start, deals, passes_start, closes, Caller, begins, closes_start, writes, drains, awaits_dealer, awaits_workers, State, start, changed, Reply, closed_lanes, IsRun}
+use Rattle.fq_law_progress.specs.Moves.{with_reply_taken, with_reply, next_reply, find_mark, May, Move, put_start, close_start, give_up, write, fail_to_write, hear_stop, drop_reply, drop_mark, end_drain, join_dealer, join_worker, take_start, find_no_start, deal, end_reading, pass_start, close_blocks, take_block, put_reply, empty_block, leave, after, is_failure, with_block, with_block_taken, AreMoves, after_all}
+use Rattle.fq_law_progress.specs.Progress.{HaveNoFailure, AllIsWritten}
+use Rattle.fq_law_progress.proofs.Kept.{has_stop, Phase, IsKept, in_hand, in_seat, keeps, kept_start, all_written}
+use Rattle.fq_law_progress.proofs.Seats.{changed_each}
+use Rattle.fq_law_progress.proofs.Turns.{share}
+use Rattle.fq_law_progress.proofs.all_is_written.Goals as goal
+
+-- Without a failure every block is written.
+
+abbrev is_calm : Doing → Bool
+is_calm takes = true
+is_calm (answers texts) = true
+is_calm (answers stop) = false
+is_calm empties = false
+is_calm left = true
+
+-- a seat with no stop
+record IsCalm (q : Seat) : Type 0 where
+  -- the worker neither puts a stop nor empties its lane
+  pub doing : is_calm q.doing ≡ true
+  pub replies : has_stop q.replies ≡ false
+  -- a worker that has left has no blocks in its lane
+  pub empty : q.doing ≡ left → q.blocks ≡ 0
+
+-- once the dealer has stopped reading, all blocks were dealt
+abbrev Dealt : Run → Dealer → ℕ → Type 0
+Dealt p awaits_start dealt = dealt ≤ p.blocks
+Dealt p deals dealt = dealt ≤ p.blocks
+Dealt p passes_start dealt = dealt ≡ p.blocks
+Dealt p (closes k) dealt = dealt ≡ p.blocks
+
+-- once the collector has stopped writing, all blocks were written
+abbrev Written : Run → Caller → ℕ → Type 0
+Written p begins written = Unit {0}
+Written p closes_start written = Unit {0}
+Written p writes written = Unit {0}
+Written p drains written = written ≡ p.blocks
+Written p awaits_dealer written = written ≡ p.blocks
+Written p (awaits_workers k) written = written ≡ p.blocks
+
+record IsSound (p : Run) (s : State) : Type 0 where
+  pub calm : (i : ℕ) → i < p.workers → IsCalm (s.seats i)
+  -- the start item was put, unless the calling thread is about to put it
+  pub begun : (s.caller ≡ begins) ⊎ (s.start_item ≡ true)
+  pub dealt : Dealt p s.dealer s.dealt
+  pub written : Written p s.caller s.written
+
+sound_start : (p : Run) → IsSound p start
+sound_start p = record {
+  calm = λ i h. record { doing = refl; replies = refl; empty = λ e. refl };
+  begun = inl refl;
+  dealt = omega arith;
+  written = tt;
+}
+
+-- one seat changes
+calm_all : (p : Run) (j : ℕ) (q : Seat) (seats : ℕ → Seat) →
+    ((i : ℕ) → i < p.workers → IsCalm (seats i)) → (IsCalm (seats j) → IsCalm q) → (i : ℕ) →
+    i < p.workers → IsCalm (changed j q seats i)
+calm_all p j q seats all here = changed_each (λ i seat. i < p.workers → IsCalm seat) j q seats
+    (λ h. here (all j h)) (λ i other. all i)
+
+no_stop_behind : (rs : List Reply) → has_stop rs ≡ false → has_stop (drop 1 rs) ≡ false
+no_stop_behind [] e = refl
+no_stop_behind (texts ∷ rs) e = e
+no_stop_behind (stop ∷ rs) e = cc
+
+no_stop_more : (rs : List Reply) → has_stop rs ≡ false → has_stop (rs ++ texts ∷ []) ≡ false
+no_stop_more [] e = refl
+no_stop_more (texts ∷ rs) e = no_stop_more rs e
+no_stop_more (stop ∷ rs) e = cc
+
+calm_taken : (q : Seat) → IsCalm q → IsCalm (with_reply_taken q)
+calm_taken q c = record {
+  doing = c.doing;
+  replies = no_stop_behind q.replies c.replies;
+  empty =
+      c.empty;
+}
+
+calm_marked : (q : Seat) → IsCalm q → IsCalm (record q { marked = true })
+calm_marked q c = record { doing = c.doing; replies = c.replies; empty = c.empty }
+
+calm_answered : (q : Seat) (r : Reply) → q.doing ≡ answers r → IsCalm q → IsCalm (with_reply q r)
+calm_answered q texts e c = record {
+  doing = refl;
+  replies =
+      no_stop_more q.replies c.replies;
+  empty = λ x. cc;
+}
+calm_answered q stop e c = absurd (let a = ap is_calm e in let b = c.doing in cc)
+
+not_next : (rs : List Reply) → has_stop rs ≡ false → next_reply rs ≡ Some stop → ⊥
+not_next [] e h = cc
+not_next (texts ∷ rs) e h = cc
+not_next (stop ∷ rs) e h = cc
+
+-- a lane of blocks is closed only once all were dealt
+all_dealt : (p : Run) (d : Dealer) (dealt i : ℕ) → Dealt p d dealt → i < closed_lanes d →
+    dealt ≡ p.blocks
+all_dealt p awaits_start dealt i h within = absurd (omega (arith, within))
+all_dealt p deals dealt i h within = absurd (omega (arith, within))
+all_dealt p passes_start dealt i h within = absurd (omega (arith, within))
+all_dealt p (closes k) dealt i h within = h
+
+-- at the mark in turn all blocks were written
+written_at_mark : (p : Run) (s : State) → IsRun p → IsKept p s → IsSound p s → May p s find_mark →
+    s.written ≡ p.blocks
+written_at_mark p s run kept sound may =
+    let ph : Phase p s writes = subst (Phase p s) may.0 kept.phase in
+    let q = s.seats s.turn in
+    let c = sound.calm s.turn may.1 in
+    let nothing : in_seat q ≡ 0 =
+    omega (arith, ap length may.2.empty, ap in_hand may.2.closed, c.empty may.2.closed) in
+    let few : share p.workers s.dealt s.turn ≤ share p.workers s.written s.turn =
+    ⊎_elim (λ stopped. absurd (let a = c.replies in cc)) (λ all. omega (arith, all, nothing))
+    (ph.1 s.turn may.1).all in
+    all_written p s run kept ph.1 few ∙ all_dealt p s.dealer s.dealt s.turn sound.dealt
+    ((kept.marks s.turn may.1).over may.2.closed)
+
+-- the same caller and dealer, and one seat changed
+sound_at : (p : Run) (s : State) (j : ℕ) (q : Seat) → IsSound p s →
+    (IsCalm (s.seats j) → IsCalm q) → IsSound p (record s { seats = changed j q s.seats })
+sound_at p s j q sound here = record {
+  calm = calm_all p j q s.seats sound.calm here;
+  begun =
+      sound.begun;
+  dealt = sound.dealt;
+  written = sound.written;
+}
+
+-- the start was put, where the caller isn't at its beginning
+item_put : (s : State) (c : Caller) → s.caller ≡ c → (c ≡ begins → ⊥) →
+    (s.caller ≡ begins) ⊎ (s.start_item ≡ true) → s.start_item ≡ true
+item_put s c e other (inl h) = absurd (other (sym e ∙ h))
+item_put s c e other (inr h) = h
+
+stays_sound : (p : Run) (s : State) (m : Move) → IsRun p → p.started ≡ p.workers → IsKept p s →
+    IsSound p s → May p s m → is_failure m ≡ false → IsSound p (after p s m)
+stays_sound p s put_start run all kept sound may safe =
+    record { calm = sound.calm; begun = inr refl; dealt = sound.dealt; written = tt }
+stays_sound p s give_up run all kept sound may safe = absurd (omega (arith, may.1, all))
+stays_sound p s close_start run all kept sound may safe =
+    record {
+      calm = sound.calm;
+      begun = inr (item_put s closes_start may (λ e. cc) sound.begun);
+      dealt = sound.dealt;
+      written = tt;
+    }
+stays_sound p s write run all kept sound may safe = record {
+  calm = calm_all p s.turn (with_reply_taken (s.seats s.turn)) s.seats sound.calm
+      (calm_taken (s.seats s.turn));
+  begun = sound.begun;
+  dealt = sound.dealt;
+  written = subst (λ c. Written p c (suc s.written)) (sym may.0) tt;
+}
+stays_sound p s fail_to_write run all kept sound may safe = absurd cc
+stays_sound p s hear_stop run all kept sound may safe =
+    absurd (not_next (s.seats s.turn).replies (sound.calm s.turn may.1).replies may.2)
+stays_sound p s find_mark run all kept sound may safe = record {
+  calm = calm_all p s.turn (record (s.seats s.turn) { marked = true }) s.seats sound.calm
+      (calm_marked (s.seats s.turn));
+  begun = inr (item_put s writes may.0 (λ e. cc) sound.begun);
+  dealt = sound.dealt;
+  written = written_at_mark p s run kept sound may;
+}
+stays_sound p s (drop_reply j) run all kept sound may safe =
+    sound_at p s j (with_reply_taken (s.seats j)) sound (calm_taken (s.seats j))
+stays_sound p s (drop_mark j) run all kept sound may safe =
+    sound_at p s j (record (s.seats j) { marked = true }) sound (calm_marked (s.seats j))
+stays_sound p s end_drain run all kept sound may safe =
+    record {
+      calm = sound.calm;
+      begun = inr (item_put s drains may.0 (λ e. cc) sound.begun);
+      dealt =
+          sound.dealt;
+      written = subst (λ c. Written p c s.written) may.0 sound.written;
+    }
+stays_sound p s join_dealer run all kept sound may safe =
+    record {
+      calm = sound.calm;
+      begun = inr (item_put s awaits_dealer may.0 (λ e. cc) sound.begun);
+      dealt = sound.dealt;
+      written = subst (λ c. Written p c s.written) may.0 sound.written;
+    }
+stays_sound p s (join_worker k) run all kept sound may safe =
+    record {
+      calm = sound.calm;
+      begun =
+          inr (item_put s (awaits_workers k) may.0 (λ e. cc) sound.begun);
+      dealt = sound.dealt;
+      written =
+          subst (λ c. Written p c s.written) may.0 sound.written;
+    }
+stays_sound p s take_start run all kept sound may safe =
+    record {
+      calm = sound.calm;
+      begun = sound.begun;
+      dealt =
+          subst (λ d. Dealt p d s.dealt) may.0 sound.dealt;
+      written = sound.written;
+    }
+stays_sound p s find_no_start run all kept sound may safe = absurd (⊎_elim
+    (λ e. (let same : s ≡ start = subst (Phase p s) e kept.phase in let a =
+    ap (λ (x : State). x.start_mark) same in let b = may.2 in cc))
+    (λ e. (let b = may.1 in cc))
+    sound.begun)
+stays_sound p s deal run all kept sound may safe = record {
+  calm = calm_all p s.deal_turn (with_block (s.seats s.deal_turn)) s.seats sound.calm
+      (λ c. record {
+        doing = c.doing;
+        replies = c.replies;
+        empty =
+            λ e. absurd (let h = (kept.marks s.deal_turn may.2).over e in
+            omega (arith, h, ap closed_lanes may.0));
+      });
+  begun = sound.begun;
+  dealt = subst (λ d. Dealt p d (suc s.dealt)) (sym may.0) (omega (arith, may.1));
+  written = sound.written;
+}
+stays_sound p s end_reading run all kept sound may safe =
+    record {
+      calm = sound.calm;
+      begun = sound.begun;
+      dealt =
+          (let h : s.dealt ≤ p.blocks = subst (λ d. Dealt p d s.dealt) may.0 sound.dealt in
+          omega (arith, h, may.1));
+      written = sound.written;
+    }
+stays_sound p s pass_start run all kept sound may safe =
+    record {
+      calm = sound.calm;
+      begun = sound.begun;
+      dealt =
+          subst (λ d. Dealt p d s.dealt) may.0 sound.dealt;
+      written = sound.written;
+    }
+stays_sound p s (close_blocks k) run all kept sound may safe =
+    record {
+      calm = sound.calm;
+      begun = sound.begun;
+      dealt =
+          subst (λ d. Dealt p d s.dealt) may.0 sound.dealt;
+      written = sound.written;
+    }
+stays_sound p s (take_block j texts) run all kept sound may safe =
+    sound_at p s j (with_block_taken (s.seats j) (answers texts)) sound (λ c. record {
+      doing =
+          refl;
+      replies = c.replies;
+      empty = λ e. cc;
+    })
+stays_sound p s (take_block j stop) run all kept sound may safe = absurd cc
+stays_sound p s (put_reply j r) run all kept sound may safe =
+    sound_at p s j (with_reply (s.seats j) r) sound (calm_answered (s.seats j) r may.1)
+stays_sound p s (empty_block j) run all kept sound may safe =
+    sound_at p s j (with_block_taken (s.seats j) empties) sound (λ c. absurd (let a =
+    ap is_calm may.1 in let b = c.doing in cc))
+stays_sound p s (leave j) run all kept sound may safe =
+    sound_at p s j (record (s.seats j) { doing = left }) sound (λ c. record {
+      doing =
+          refl;
+      replies = c.replies;
+      empty = λ e. may.2;
+    })
+
+-- The end of a run.
+
+ended_from : (p : Run) (s : State) (moves : List Move) → IsRun p → p.started ≡ p.workers →
+    IsKept p s → IsSound p s → AreMoves p s moves → HaveNoFailure moves →
+    IsSound p (after_all p s moves)
+ended_from p s [] run all kept sound are none = sound
+ended_from p s (m ∷ ms) run all kept sound are none =
+    ended_from p (after p s m) ms run all (keeps p s m run kept are.0)
+    (stays_sound p s m run all kept sound are.0 none.0) are.1 none.1
+
+-- without a failure, and with all threads, a run that has ended has written every block
+writes_all_blocks : AllIsWritten
+writes_all_blocks p moves run all are none ended =
+    let s = after_all p start moves in
+    let sound = ended_from p start moves run all (kept_start p) (sound_start p) are none in
+    subst (λ c. Written p c s.written) ended.caller sound.written
+
+-- without a failure, and with all threads, a run that has ended has written every block
+pub returns : goal.returns
+returns c = writes_all_blocks

@@ -1,0 +1,49 @@
+-- What a run leaves in its outlets, read again as FASTQ.
+use Rattle.std.specs.Prelude.{◌≡◌, ◌<◌, Some, List, ◌++◌, ℕ}
+use Rattle.fq_text.specs.Devices.{OutletState}
+use Rattle.fq_pair.specs.declared.out.Out.{Out}
+use Rattle.fq_pair.specs.Mates.{Mates}
+use Rattle.fq_run_core.specs.Choices.{Choices}
+use Rattle.fq_run_core.specs.Devices.{OutletStates, outlet_at}
+use Rattle.fq_run_core.specs.Endings.{Run, IsTrimmed, EveryEnding, AreTold, AreFirst, all_pairs}
+use Rattle.fq_run_core.specs.Fates.{Fate, Unbroken, part_begun}
+use Rattle.fq_run_core.specs.Outcomes.{rank}
+use Rattle.fq_app_files.specs.Trimming.{AreEmpty}
+use Rattle.fq_law_in_step.specs.InStep.{AreInStep}
+
+-- the outlets have taken these texts
+abbrev pub HaveTaken : OutletStates → (Out → List ℕ) → Type 0
+HaveTaken outlets texts = (out : Out) (outlet : OutletState) →
+    outlet_at out outlets ≡ Some outlet → outlet.taken ≡ texts out
+
+-- A run that ended whole.
+
+-- The outlets have taken the outputs of all pairs, in step with the counts of the run.
+pub record RunIsInStep (c : Choices) (run : Run) : Type 0 where
+  pub texts : Out → List ℕ
+  pub taken : HaveTaken run.outlets_left texts
+  pub in_step : AreInStep c.check_names c.steps c.encoding (all_pairs c run).mates run.counts texts
+
+-- the outputs are in step, if the bytes of the outlets are known and the outlets begin empty
+abbrev pub WholeRunsAreInStep : Type 0
+WholeRunsAreInStep = (c : Choices) (run : Run) →
+    IsTrimmed c run → AreEmpty run.outlets → RunIsInStep c run
+
+-- A run with any other ending except an unconfirmed lane.
+
+-- The outlets have taken the outputs of the first pairs, those whose block was written whole, in
+-- step with the counts of the run. After these there is at most the part that was written of the
+-- one block in which a write failed, and nothing if no write can have failed.
+pub record RunIsInStepUpTo (c : Choices) (run : Run) : Type 0 where
+  pub whole : List Mates
+  pub fate : Fate
+  pub texts : Out → List ℕ
+  pub first : AreFirst whole (all_pairs c run).mates
+  pub taken : HaveTaken run.outlets_left (λ out. texts out ++ part_begun c.steps fate out)
+  pub unbroken : 5 < rank run.outcome → fate ≡ Unbroken
+  pub in_step : AreInStep c.check_names c.steps c.encoding whole run.counts texts
+
+-- the outputs are in step for the first pairs, if the bytes of the feeds are known, too
+abbrev pub EndingsAreInStep : Type 0
+EndingsAreInStep = (c : Choices) (run : Run) →
+    EveryEnding c run → AreTold run → AreEmpty run.outlets → RunIsInStepUpTo c run

@@ -1,0 +1,20 @@
+//! Laws of runs, on one thread or several, over two texts or one interleaved text.
+
+ghost use Rattle.fq_law_runs.specs.Runs.{WholeRunsAreInStep, EndingsAreInStep};
+
+/// After a run that ended whole, what its outlets have taken is in step, with its counts.
+///
+/// The premise `IsTrimmed` is the clause `whole` of each run. The bytes of the outlets must be
+/// known to the proof, and the outlets must have begun empty.
+pub fn whole_runs_are_in_step()
+    ensures { WholeRunsAreInStep }
+{}
+
+/// After a run with any other ending except an unconfirmed lane, what its outlets have taken is in
+/// step for its first pairs, up to the block in which a write failed.
+///
+/// The premise `EveryEnding` is the clause `every` of each run. The bytes of the feeds must be
+/// known, too.
+pub fn endings_are_in_step()
+    ensures { EndingsAreInStep }
+{}

@@ -1,6 +1,0 @@
-use Rattle.fq_laws.proofs.RunLemmas.{endings}
-use Rattle.fq_laws.proofs.runs.endings_are_in_step.Goals as goal
-
--- at each ending but `Lane`, what outlets took of complete blocks is in step with the counts
-pub returns : goal.returns
-returns c = endings

@@ -1,0 +1,358 @@
+-- Facts that name the columns one by one. Those of the rows of one column are in PositionLemmas and
+-- FewLemmas.
+use Rattle.std.proofs.Common.{◌≡◌, ℕ, ◌+◌, ◌*◌, ◌<◌, ◌≤◌, Bool, true, nat_le, List, [], ◌∷◌, ◌++◌, length, take, map, get_or, replicate, min, refl, ap, ap₂, sym, ◌∙◌, arith, max}
+use Rattle.std.specs.List.{All, list_all}
+use Rattle.std.proofs.lemmas.List.{take_more, length-take-le, length-map, map-append}
+use Rattle.std.proofs.lemmas.Bool.{and_from}
+use Rattle.std.proofs.lemmas.List.Elements.{All-cons, All-nil}
+use Rattle.fq_text.specs.declared.encoding.Encoding.{Encoding}
+use Rattle.fq_text.specs.Scores.{is_scored, value_of}
+use Rattle.fq_text.proofs.ScoreLemmas.{at_place}
+use Rattle.fq_trim.specs.Keeping.{scores}
+use Rattle.fq_trim.proofs.PlaceLemmas.{all_taken}
+use Rattle.fq_report_reads.specs.declared.columns.Columns.{Columns}
+use Rattle.fq_report_reads.specs.Rows.{rows_plus}
+use Rattle.fq_report_reads.specs.Courses.{Part}
+use Rattle.fq_report_reads.specs.Letters.{is_a, is_c, is_g, is_t, is_n}
+use Rattle.fq_report_reads.proofs.RowLemmas.{plus_none}
+use Rattle.fq_report_reads.specs.Counting.{AtMost, IsFew, by_position, lane_score, one_if, placed}
+use Rattle.fq_report_reads.specs.Columns.{AreCleared, AreFew, columns_from, columns_of, columns_plus, columns_tables, each_column, empty_rows, first_rows, lanes_at, no_columns, one_in}
+use Rattle.fq_report_reads.proofs.PositionLemmas.{one_if_small, ones_joined, placed_joined, placed_none, placed_one, rows_assoc, rows_comm, scores_small}
+use Rattle.fq_report_reads.proofs.FewLemmas.{lanes_bases, lanes_scores, mapped_at_most, placed_short, row_behind, row_cut, row_more, row_nothing, row_weaker, scores_at_most, zeros_in_front, zeros_mapped}
+
+-- columns are the same if each of them is
+pub columns_same : (x y : Columns) → x.bases ≡ y.bases → x.score_sum ≡ y.score_sum →
+    x.q30_bases ≡ y.q30_bases → x.a ≡ y.a → x.c ≡ y.c → x.g ≡ y.g → x.t ≡ y.t → x.n ≡ y.n → x ≡ y
+columns_same x y bases score_sum q30_bases a c g t n =
+    let same : each_column (λ rows. rows) x ≡ each_column (λ rows. rows) y = cc in same
+
+-- of three sets of columns, it makes no difference which two are added first
+pub columns_assoc : (x y z : Columns) → columns_plus (columns_plus x y) z ≡ columns_plus x
+    (columns_plus y z)
+columns_assoc x y z =
+    columns_same (columns_plus (columns_plus x y) z) (columns_plus x (columns_plus y z))
+    (rows_assoc x.bases y.bases z.bases) (rows_assoc x.score_sum y.score_sum z.score_sum)
+    (rows_assoc x.q30_bases y.q30_bases z.q30_bases)
+    (rows_assoc x.a y.a z.a) (rows_assoc x.c y.c z.c) (rows_assoc x.g y.g z.g)
+    (rows_assoc x.t y.t z.t) (rows_assoc x.n y.n z.n)
+
+-- two sets of columns can be added in either order
+pub columns_comm : (x y : Columns) → columns_plus x y ≡ columns_plus y x
+columns_comm x y =
+    columns_same (columns_plus x y) (columns_plus y x)
+    (rows_comm x.bases y.bases) (rows_comm x.score_sum y.score_sum)
+    (rows_comm x.q30_bases y.q30_bases)
+    (rows_comm x.a y.a) (rows_comm x.c y.c) (rows_comm x.g y.g) (rows_comm x.t y.t)
+    (rows_comm x.n y.n)
+
+-- adding the columns of no bases changes nothing
+pub columns_none : (x : Columns) → columns_plus x no_columns ≡ x
+columns_none x =
+    columns_same (columns_plus x no_columns) x
+    (plus_none x.bases) (plus_none x.score_sum) (plus_none x.q30_bases) (plus_none x.a)
+    (plus_none x.c) (plus_none x.g) (plus_none x.t) (plus_none x.n)
+
+-- Sums in another order.
+pub columns_swap : (x y z : Columns) → columns_plus (columns_plus x y) z ≡ columns_plus
+    (columns_plus x z) y
+columns_swap x y z = columns_assoc x y z ∙ ap (columns_plus x) (columns_comm y z)
+    ∙ sym (columns_assoc x z y)
+
+-- of four sets of columns, the last can be added to the first before the other two
+pub columns_both : (w x y z : Columns) → columns_plus (columns_plus (columns_plus w y) z) x
+    ≡ columns_plus (columns_plus w x) (columns_plus y z)
+columns_both w x y z = ap (λ v. columns_plus v x) (columns_assoc w y z)
+    ∙ columns_swap w (columns_plus y z) x
+
+-- The columns of bases are those of the first of them and of the others together.
+pub columns_joined : (at k : ℕ) (e : Encoding) (seq qual others bytes : List ℕ) →
+    k ≡ at + length seq →
+    length qual ≡ length seq → length bytes ≡ length others → length seq ≤ 1048576 →
+    length others ≤ 1048576 →
+    list_all (is_scored e) qual ≡ true → list_all (is_scored e) bytes ≡ true →
+    columns_plus (columns_from at e seq qual) (columns_from k e others bytes)
+    ≡ columns_from at e (seq ++ others) (qual ++ bytes)
+columns_joined at k e seq qual others bytes behind same alike few less scored all =
+    let first = scores_small e qual scored in
+    let second = scores_small e bytes all in
+    let long : k ≡ at + length (scores e qual) = omega (arith, length-map qual (value_of e)) in
+    let some : length (scores e qual) ≤ 1048576 = omega (arith, length-map qual (value_of e)) in
+    let more : length (scores e bytes) ≤ 1048576 = omega (arith, length-map bytes (value_of e)) in
+    let whole = sym (map-append (value_of e) qual bytes) in
+    let letters = λ (p : ℕ → Bool). ones_joined (one_if p) (one_if_small p) at k seq others behind
+    few less in
+    columns_same (columns_plus (columns_from at e seq qual) (columns_from k e others bytes))
+    (columns_from at e (seq ++ others) (qual ++ bytes))
+    (ones_joined (λ _. 1) (λ _. omega arith) at k seq others behind few less)
+    (placed_joined at k (scores e qual) (scores e bytes) long (omega arith) ∙ ap (placed at) whole)
+    (ones_joined (one_if (nat_le 30)) (one_if_small (nat_le 30)) at k (scores e qual)
+    (scores e bytes) long some more ∙ ap (λ q. placed at (map (one_if (nat_le 30)) q)) whole)
+    (letters is_a) (letters is_c) (letters is_g) (letters is_t) (letters is_n)
+
+-- no bases, after a place
+pub columns_empty : (at rows : ℕ) (e : Encoding) → rows ≡ min at 10001 →
+    empty_rows rows ≡ columns_from at e [] []
+columns_empty at rows e is =
+    let none = placed_none at rows is in
+    columns_same (empty_rows rows) (columns_from at e [] []) none none none none none none none none
+
+-- one base
+pub columns_one : (at row base byte : ℕ) (e : Encoding) → row ≡ min at 10000 →
+    one_in row base (value_of e byte) ≡ columns_from at e (base ∷ []) (byte ∷ [])
+columns_one at row base byte e is =
+    let one = λ (a : ℕ). placed_one at row a is in
+    columns_same (one_in row base (value_of e byte)) (columns_from at e (base ∷ []) (byte ∷ []))
+    (one 1) (one (value_of e byte)) (one (one_if (nat_le 30) (value_of e byte)))
+    (one (one_if is_a base)) (one (one_if is_c base)) (one (one_if is_g base))
+    (one (one_if is_t base)) (one (one_if is_n base))
+
+-- one more of several bases is counted
+pub counted_next : (start now new : Columns) (at i row score : ℕ) (e : Encoding)
+    (seq qual : List ℕ) →
+    now ≡ columns_plus start (columns_from at e (take i seq) (take i qual)) →
+    row ≡ min (at + i) 10000 →
+    score ≡ value_of e (get_or qual i 0) → i < length seq → length qual ≡ length seq →
+    length seq ≤ 1048576 →
+    list_all (is_scored e) qual ≡ true → new ≡ columns_plus now
+    (one_in row (get_or seq i 0) score) →
+    new ≡ columns_plus start (columns_from at e (take (i + 1) seq) (take (i + 1) qual))
+counted_next start now new at i row score e seq qual so_far row_is score_is within same few scored
+    here =
+    let base = get_or seq i 0 in
+    let byte = get_or qual i 0 in
+    let long : i < length qual = omega arith in
+    let size = length-take-le i seq (omega arith) in
+    let sizes = length-take-le i qual (omega arith) in
+    let one : list_all (is_scored e) (byte ∷ []) ≡ true =
+    and_from (is_scored e byte) true (at_place (is_scored e) qual i scored long) refl in
+    here
+    ∙ ap (λ x. columns_plus now (one_in row base x)) score_is
+    ∙ ap₂ columns_plus so_far (columns_one (at + i) row base byte e row_is)
+    ∙ columns_assoc start (columns_from at e (take i seq) (take i qual))
+    (columns_from (at + i) e (base ∷ []) (byte ∷ []))
+    ∙ ap (columns_plus start) (columns_joined at (at + i) e (take i seq) (take i qual) (base ∷ [])
+    (byte ∷ []) (omega arith) (omega arith) refl (omega arith) (omega arith)
+    (all_taken (is_scored e) qual i scored) one)
+    ∙ ap₂ (λ s t. columns_plus start (columns_from at e s t)) (sym (take_more seq i 0 within))
+    (sym (take_more qual i 0 long))
+
+-- What is counted of vectors.
+
+-- lanes with a base each, up to position 10,000, count as the columns of these bases
+pub lanes_are_columns : (at : ℕ) (e : Encoding) (s q : List ℕ) → list_all (is_scored e) q ≡ true →
+    length q ≡ length s → at + length s ≤ 10000 →
+    lanes_at at e s q ≡ columns_from at e s q
+lanes_are_columns at e s q all same near =
+    let shift = λ (ns : List ℕ). replicate at 0 ++ ns in
+    let sc = lanes_scores e q all in
+    let letters =
+    λ (p : ℕ → Bool). sym (placed_short at (map (one_if p) s)
+    (omega (arith, length-map s (one_if p)))) in
+    columns_same (lanes_at at e s q) (columns_from at e s q)
+    (ap shift (lanes_bases e q s all same)
+    ∙ sym (placed_short at (map (λ _. 1) s) (omega (arith, length-map {B = ℕ} s (λ _. 1)))))
+    (ap shift sc ∙ sym (placed_short at (scores e q) (omega (arith, length-map q (value_of e)))))
+    (ap (λ ns. shift (map (one_if (nat_le 30)) ns)) sc
+    ∙ sym (placed_short at (map (one_if (nat_le 30)) (scores e q))
+    (omega (arith, length-map (scores e q) (one_if (nat_le 30)), length-map q (value_of e)))))
+    (letters is_a) (letters is_c) (letters is_g) (letters is_t) (letters is_n)
+
+-- lanes after k zeros are the same lanes, k places further on
+pub lanes_moved : (at k : ℕ) (e : Encoding) (s q : List ℕ) →
+    lanes_at at e (replicate k 0 ++ s) (replicate k 0 ++ q) ≡ lanes_at (at + k) e s q
+lanes_moved at k e s q =
+    let letters = λ (p : ℕ → Bool) (none : one_if p 0 ≡ 0). zeros_in_front (one_if p) none at k s in
+    let first = map-append (lane_score e) (replicate k 0) q
+    ∙ ap (λ ns. ns ++ map (lane_score e) q) (zeros_mapped (lane_score e) refl k) in
+    columns_same (lanes_at at e (replicate k 0 ++ s) (replicate k 0 ++ q)) (lanes_at (at + k) e s q)
+    (zeros_in_front (one_if (nat_le 1)) refl at k q)
+    (zeros_in_front (lane_score e) refl at k q)
+    (ap (λ ns. replicate at 0 ++ map (one_if (nat_le 30)) ns) first
+    ∙ zeros_in_front (one_if (nat_le 30)) refl at k (map (lane_score e) q))
+    (letters is_a refl) (letters is_c refl) (letters is_g refl) (letters is_t refl)
+    (letters is_n refl)
+
+-- zeros after the lanes of a vector add nothing to the rows of a few reads
+pub lanes_behind : (x : Columns) (rows len reads at k : ℕ) (e : Encoding) (s q : List ℕ) →
+    AreFew rows len reads x → reads ≤ 254 → length q ≡ length s → at + (length s + k) ≤ rows →
+    columns_plus x (lanes_at at e (s ++ replicate k 0) (q ++ replicate k 0))
+    ≡ columns_plus x (lanes_at at e s q)
+lanes_behind x rows len reads at k e s q few bound same room =
+    let wide : at + (length q + k) ≤ rows = omega arith in
+    let scored : at + (length (map (lane_score e) q) + k) ≤ rows =
+    omega (arith, length-map q (lane_score e)) in
+    let first = map-append (lane_score e) q (replicate k 0)
+    ∙ ap (λ ns. map (lane_score e) q ++ ns) (zeros_mapped (lane_score e) refl k) in
+    columns_same (columns_plus x (lanes_at at e (s ++ replicate k 0) (q ++ replicate k 0)))
+    (columns_plus x (lanes_at at e s q))
+    (row_behind (one_if (nat_le 1)) refl rows len reads at k x.bases q few.bases (omega arith) wide)
+    (row_behind (lane_score e) refl rows len (93 * reads) at k x.score_sum q few.score_sum
+    (omega arith) wide)
+    (ap (λ ns. rows_plus x.q30_bases (replicate at 0 ++ map (one_if (nat_le 30)) ns)) first
+    ∙ row_behind (one_if (nat_le 30)) refl rows len reads at k x.q30_bases
+    (map (lane_score e) q) few.q30_bases (omega arith) scored)
+    (row_behind (one_if is_a) refl rows len reads at k x.a s few.a (omega arith) room)
+    (row_behind (one_if is_c) refl rows len reads at k x.c s few.c (omega arith) room)
+    (row_behind (one_if is_g) refl rows len reads at k x.g s few.g (omega arith) room)
+    (row_behind (one_if is_t) refl rows len reads at k x.t s few.t (omega arith) room)
+    (row_behind (one_if is_n) refl rows len reads at k x.n s few.n (omega arith) room)
+
+-- rows such as some reads can give are such as more reads can give that reach further
+pub few_weaker : (x : Columns) (rows rows' len len' reads reads' : ℕ) → AreFew rows len reads x →
+    rows' ≤ rows → len ≤ len' → reads ≤ reads' → AreFew rows' len' reads' x
+few_weaker x rows rows' len len' reads reads' few less order bound = record {
+  bases = row_weaker rows rows' len len' reads reads' x.bases few.bases less order bound;
+  score_sum = row_weaker rows rows' len len' (93 * reads) (93 * reads') x.score_sum few.score_sum
+      less order (omega arith);
+  q30_bases = row_weaker rows rows' len len' reads reads' x.q30_bases few.q30_bases less order
+      bound;
+  a = row_weaker rows rows' len len' reads reads' x.a few.a less order bound;
+  c = row_weaker rows rows' len len' reads reads' x.c few.c less order bound;
+  g = row_weaker rows rows' len len' reads reads' x.g few.g less order bound;
+  t = row_weaker rows rows' len len' reads reads' x.t few.t less order bound;
+  n = row_weaker rows rows' len len' reads reads' x.n few.n less order bound;
+}
+
+-- columns that were cleared hold nothing of a few reads
+pub few_cleared : (x y : Columns) (rows count most : ℕ) → AreCleared x y →
+    AreFew rows count most x → AreFew rows 0 0 y
+few_cleared x y rows count most cleared few = record {
+  bases = cleared.bases rows few.bases.size;
+  score_sum = cleared.score_sum rows few.score_sum.size;
+  q30_bases = cleared.q30_bases rows few.q30_bases.size;
+  a = cleared.a rows few.a.size;
+  c = cleared.c rows few.c.size;
+  g = cleared.g rows few.g.size;
+  t = cleared.t rows few.t.size;
+  n = cleared.n rows few.n.size;
+}
+
+-- no lanes add nothing to the rows of a few reads
+pub lanes_nothing : (x : Columns) (rows len reads at : ℕ) (e : Encoding) → AreFew rows len reads x →
+    reads ≤ 254 → at ≤ rows → x ≡ columns_plus x (lanes_at at e [] [])
+lanes_nothing x rows len reads at e few bound within =
+    columns_same x (columns_plus x (lanes_at at e [] []))
+    (row_nothing rows len reads at x.bases few.bases (omega arith) within)
+    (row_nothing rows len (93 * reads) at x.score_sum few.score_sum (omega arith) within)
+    (row_nothing rows len reads at x.q30_bases few.q30_bases (omega arith) within)
+    (row_nothing rows len reads at x.a few.a (omega arith) within)
+    (row_nothing rows len reads at x.c few.c (omega arith) within)
+    (row_nothing rows len reads at x.g few.g (omega arith) within)
+    (row_nothing rows len reads at x.t few.t (omega arith) within)
+    (row_nothing rows len reads at x.n few.n (omega arith) within)
+
+-- One more read among a few.
+module _ (x : Columns) (rows len len' reads at : ℕ) (e : Encoding) (s q : List ℕ)
+    (few : AreFew rows len reads x) (all : list_all (is_scored e) q ≡ true)
+    (same : length q ≡ length s) where
+  ones : (p : ℕ → Bool) (xs : List ℕ) → AtMost 1 (map (one_if p) xs)
+  ones p xs = mapped_at_most (one_if p) 1 (one_if_small p) xs
+
+  size_q : length (map (lane_score e) q) ≡ length s
+  size_q = length-map q (lane_score e) ∙ same
+
+  -- with the lanes of one more read, the rows are such as one more read can give
+  pub lanes_more : len ≤ len' → at + length s ≤ len' → at + length s ≤ rows →
+      AreFew rows len' (reads + 1) (columns_plus x (lanes_at at e s q))
+  lanes_more order within room =
+      let letter = λ (p : ℕ → Bool) (xs : List ℕ) (old : IsFew rows len reads xs). row_more rows len
+      len' reads 1 (reads + 1) at (length s) xs (map (one_if p) s) old (ones p s)
+      (length-map s (one_if p)) order within room (omega arith) in
+      record {
+        bases = row_more rows len len' reads 1 (reads + 1) at (length s) x.bases
+            (map (one_if (nat_le 1)) q) few.bases (ones (nat_le 1) q)
+            (length-map q (one_if (nat_le 1)) ∙ same) order within room (omega arith);
+        score_sum = row_more rows len len' (93 * reads) 93 (93 * (reads + 1)) at (length s)
+            x.score_sum (map (lane_score e) q) few.score_sum (scores_at_most e q all) size_q order
+            within room (omega arith);
+        q30_bases = row_more rows len len' reads 1 (reads + 1) at (length s) x.q30_bases
+            (map (one_if (nat_le 30)) (map (lane_score e) q)) few.q30_bases
+            (ones (nat_le 30) (map (lane_score e) q))
+            (length-map (map (lane_score e) q) (one_if (nat_le 30))
+            ∙ size_q) order within room (omega arith);
+        a = letter is_a x.a few.a;
+        c = letter is_c x.c few.c;
+        g = letter is_g x.g few.g;
+        t = letter is_t x.t few.t;
+        n = letter is_n x.n few.n;
+      }
+
+  -- lanes can be added before or after the rows are cut to those that were reached
+  pub lanes_cut : len' ≡ max len (at + length s) → len' ≤ rows →
+      first_rows len' (columns_plus x (lanes_at at e s q))
+      ≡ columns_plus (first_rows len x) (lanes_at at e s q)
+  lanes_cut is room =
+      let letter = λ (p : ℕ → Bool) (xs : List ℕ) (old : IsFew rows len reads xs). row_cut rows len
+      len' reads 1 at (length s) xs (map (one_if p) s) old (ones p s) (length-map s (one_if p))
+      (omega arith) is room in
+      columns_same (first_rows len' (columns_plus x (lanes_at at e s q)))
+      (columns_plus (first_rows len x) (lanes_at at e s q))
+      (row_cut rows len len' reads 1 at (length s) x.bases (map (one_if (nat_le 1)) q) few.bases
+      (ones (nat_le 1) q) (length-map q (one_if (nat_le 1)) ∙ same) (omega arith) is room)
+      (row_cut rows len len' (93 * reads) 93 at (length s) x.score_sum (map (lane_score e) q)
+      few.score_sum (scores_at_most e q all) size_q (omega arith) is room)
+      (row_cut rows len len' reads 1 at (length s) x.q30_bases
+      (map (one_if (nat_le 30)) (map (lane_score e) q)) few.q30_bases
+      (ones (nat_le 30) (map (lane_score e) q))
+      (length-map (map (lane_score e) q) (one_if (nat_le 30)) ∙ size_q) (omega arith) is room)
+      (letter is_a x.a few.a) (letter is_c x.c few.c) (letter is_g x.g few.g)
+      (letter is_t x.t few.t) (letter is_n x.n few.n)
+
+-- A property of each column.
+
+pub record OfEach (P : List ℕ → Type 0) (x : Columns) : Type 0 where
+  pub bases : P x.bases
+  pub score_sum : P x.score_sum
+  pub q30_bases : P x.q30_bases
+  pub a : P x.a
+  pub c : P x.c
+  pub g : P x.g
+  pub t : P x.t
+  pub n : P x.n
+
+-- what holds of no rows holds of the columns of no bases
+pub each_of_none : (P : List ℕ → Type 0) → P [] → OfEach P no_columns
+each_of_none P none = record {
+  bases = none;
+  score_sum = none;
+  q30_bases = none;
+  a = none;
+  c = none;
+  g = none;
+  t = none;
+  n = none;
+}
+
+-- if one number for each base of a read turns P into Q in any column, it does in each
+pub each_with_read : (P Q : List ℕ → Type 0) (x : Columns) (part : Part) →
+    length part.qual ≡ length part.seq →
+    ((xs ns : List ℕ) → P xs → length ns ≡ length part.seq → Q (rows_plus xs (by_position ns))) →
+    OfEach P x → OfEach Q (columns_plus x (columns_of part))
+each_with_read P Q x part same more each =
+    let s = part.seq in
+    let q = scores part.encoding part.qual in
+    let scored : length q ≡ length s = length-map part.qual _ ∙ same in
+    record {
+      bases = more x.bases (map (λ _. 1) s) each.bases (length-map s _);
+      score_sum = more x.score_sum q each.score_sum scored;
+      q30_bases = more x.q30_bases (map (one_if (nat_le 30)) q) each.q30_bases
+          (length-map q _ ∙ scored);
+      a = more x.a (map (one_if is_a) s) each.a (length-map s _);
+      c = more x.c (map (one_if is_c) s) each.c (length-map s _);
+      g = more x.g (map (one_if is_g) s) each.g (length-map s _);
+      t = more x.t (map (one_if is_t) s) each.t (length-map s _);
+      n = more x.n (map (one_if is_n) s) each.n (length-map s _);
+    }
+
+-- what holds of each column holds of all their tables
+pub each_listed : (P : List ℕ → Type 0) (x : Columns) → OfEach P x → All P (columns_tables x)
+each_listed P x each =
+    let n = All-cons P x.n [] each.n (All-nil P) in
+    let t = All-cons P x.t (x.n ∷ []) each.t n in
+    let g = All-cons P x.g (x.t ∷ x.n ∷ []) each.g t in
+    let c = All-cons P x.c (x.g ∷ x.t ∷ x.n ∷ []) each.c g in
+    let a = All-cons P x.a (x.c ∷ x.g ∷ x.t ∷ x.n ∷ []) each.a c in
+    let q = All-cons P x.q30_bases (x.a ∷ x.c ∷ x.g ∷ x.t ∷ x.n ∷ []) each.q30_bases a in
+    let s = All-cons P x.score_sum (x.q30_bases ∷ x.a ∷ x.c ∷ x.g ∷ x.t ∷ x.n ∷ []) each.score_sum q
+    in
+    All-cons P x.bases (x.score_sum ∷ x.q30_bases ∷ x.a ∷ x.c ∷ x.g ∷ x.t ∷ x.n ∷ []) each.bases s

@@ -1,0 +1,257 @@
+-- One list of steps of several, on what is left of a read.
+use Rattle.std.proofs.Common.{◌≡◌, ℕ, zero, suc, ◌+◌, ◌-◌, ◌<◌, ◌≤◌, cond, nat_lt, List, [], ◌∷◌, ◌++◌, length, take, drop, get_or, map, refl, ap, sym, ◌∙◌, arith, add-one}
+use Rattle.std.proofs.lemmas.List.{drop_more, drop_all, drop-drop, drop-take, take-take, take-append-drop, length-drop, length-take-le}
+use Rattle.fq_text.specs.declared.encoding.Encoding.{Encoding}
+use Rattle.fq_text.specs.Grammar.{Read}
+use Rattle.fq_trim.specs.declared.step.Step.{Step}
+use Rattle.fq_trim.specs.declared.trimming.Kept.{Kept}
+use Rattle.fq_trim.specs.Keeping.{kept, kept_of, only, scores, places}
+use Rattle.fq_trim.proofs.PlaceLemmas.{length-places, length-scores, scores_at, scores_of_part}
+use Rattle.fq_report_reads.specs.Courses.{Part, part_at, whole, Course, alone, after, course_of}
+use Rattle.fq_report_reads.proofs.LeftLaws.{at, kept_within, kept_append, kept_none}
+
+-- bases and their quality bytes as a part of a read
+abbrev pub part : Encoding → List ℕ → List ℕ → Part
+part encoding seq qual = record { encoding = encoding; seq = seq; qual = qual }
+
+-- the part from a place on
+abbrev pub cut : ℕ → ℕ → Part → Part
+cut start n p = record {
+  encoding = p.encoding;
+  seq = take n (drop start p.seq);
+  qual =
+      take n (drop start p.qual);
+}
+
+-- list number `number` keeps n places of a part from start on, and what is left takes this course
+abbrev pub kept_course : ℕ → ℕ → ℕ → Part → Course → Course
+kept_course number start n p course = record {
+  left = course.left;
+  front = start + course.front;
+  shortened = cond (nat_lt n (length p.qual)) (number ∷ course.shortened) course.shortened;
+  dropped = course.dropped;
+}
+
+after_places : (number start n : ℕ) (p : Part) (course : Course) → 0 < n →
+    after number (places start n) p course ≡ kept_course number start n p course
+after_places number start zero p course some = absurd (omega arith)
+after_places number start (suc n) p course some =
+    ap (λ m. kept_course number start (suc m) p course) (length-places (suc start) n)
+
+-- a list of steps that keeps something
+pub course_kept : (number : ℕ) (steps : List Step) (others : List (List Step)) (p : Part)
+    (k : Kept) →
+    kept steps (scores p.encoding p.qual) ≡ places k.start (k.stop - k.start) →
+    k.stop ≤ length p.qual → length p.qual ≡ length p.seq →
+    course_of number (steps ∷ others) p ≡ kept_course number k.start (k.stop - k.start) p (course_of
+    (suc number) others (cut k.start (k.stop - k.start) p))
+course_kept number steps others p k is within same =
+    let some = k.some in
+    let n = k.stop - k.start in
+    let seq = scores_at p.seq k.start n (omega arith) in
+    let qual = scores_at p.qual k.start n (omega arith) in
+    ap (λ (at : List ℕ). after number at p (course_of (suc number) others (part_at at p))) is
+    ∙ after_places number k.start n p (course_of (suc number) others (part_at (places k.start n) p))
+    (omega arith)
+    ∙ ap (λ (s : List ℕ). kept_course number k.start n p
+    (course_of (suc number) others (part p.encoding s (part_at (places k.start n) p).qual))) seq
+    ∙ ap (λ (q : List ℕ). kept_course number k.start n p
+    (course_of (suc number) others (part p.encoding (take n (drop k.start p.seq)) q))) qual
+
+-- a list of steps that keeps nothing
+pub course_dropped : (number : ℕ) (steps : List Step) (others : List (List Step)) (p : Part) →
+    kept steps (scores p.encoding p.qual) ≡ [] →
+    course_of number (steps ∷ others) p ≡ record {
+      left = part p.encoding [] [];
+      front =
+          0;
+      shortened = [];
+      dropped = number ∷ [];
+    }
+course_dropped number steps others p is =
+    ap (λ (at : List ℕ). after number at p (course_of (suc number) others (part_at at p))) is
+
+-- the same in turn, if the list is at its number
+pub next_kept : (number : ℕ) (lists : List (List Step)) (encoding : Encoding) (seq qual : List ℕ)
+    (k : Kept) → number < length lists →
+    kept (get_or lists number []) (scores encoding qual) ≡ places k.start (k.stop - k.start) →
+    k.stop ≤ length qual → length qual ≡ length seq →
+    course_of number (drop number lists) (part encoding seq qual)
+    ≡ kept_course number k.start (k.stop - k.start) (part encoding seq qual)
+    (course_of (number + 1) (drop (number + 1) lists)
+    (cut k.start (k.stop - k.start) (part encoding seq qual)))
+next_kept number lists encoding seq qual k lt is within same =
+    let p = part encoding seq qual in
+    let n = k.stop - k.start in
+    ap (λ (ls : List (List Step)). course_of number ls p) (drop_more lists number [] lt)
+    ∙ course_kept number (get_or lists number []) (drop (number + 1) lists) p k is within same
+    ∙ ap (λ (m : ℕ). kept_course number k.start n p
+    (course_of m (drop (number + 1) lists) (cut k.start n p))) (sym (add-one number))
+
+-- a list that is taken in turn and keeps no place drops what is left of the read
+pub next_dropped : (number : ℕ) (lists : List (List Step)) (encoding : Encoding)
+    (seq qual : List ℕ) → number < length lists →
+    kept (get_or lists number []) (scores encoding qual) ≡ [] →
+    course_of number (drop number lists) (part encoding seq qual) ≡ record {
+      left =
+          part encoding [] [];
+      front = 0;
+      shortened = [];
+      dropped = number ∷ [];
+    }
+next_dropped number lists encoding seq qual lt is =
+    ap (λ (ls : List (List Step)). course_of number ls (part encoding seq qual))
+    (drop_more lists number [] lt)
+    ∙ course_dropped number (get_or lists number []) (drop (number + 1) lists)
+    (part encoding seq qual) is
+
+-- after the last list
+pub none_next : (number : ℕ) (lists : List (List Step)) (p : Part) → length lists ≤ number →
+    course_of number (drop number lists) p ≡ record {
+      left = p;
+      front = 0;
+      shortened = [];
+      dropped =
+          [];
+    }
+none_next number lists p all = ap (λ (ls : List (List Step)). course_of number ls p)
+    (drop_all number lists all)
+
+-- steps, each in a list of its own
+pub alone_length : (steps : List Step) → length (alone steps) ≡ length steps
+alone_length [] = refl
+alone_length (step ∷ steps) = ap suc (alone_length steps)
+
+-- the list with the number of a step is that step alone
+pub alone_at : (steps : List Step) (number : ℕ) → number < length steps →
+    get_or (alone steps) number [] ≡ only number steps
+alone_at [] number lt = absurd (omega arith)
+alone_at (step ∷ steps) zero lt = refl
+alone_at (step ∷ steps) (suc n) lt = alone_at steps n (omega arith)
+
+-- The walk over steps, by the places that are still left.
+
+at_places : (s m a : ℕ) → a < m → get_or (places s m) a 0 ≡ s + a
+at_places s zero a lt = absurd (omega arith)
+at_places s (suc m) zero lt = omega arith
+at_places s (suc m) (suc a) lt = let rest = at_places (suc s) m a (omega arith) in omega arith
+
+-- places of places
+places_at : (s m a n : ℕ) → a + n ≤ m → map (at (places s m)) (places a n) ≡ places (s + a) n
+places_at s m a zero le = refl
+places_at s m a (suc n) le =
+    let next : s + suc a ≡ suc (s + a) = omega arith in
+    ap (λ x. x ∷ map (at (places s m)) (places (suc a) n)) (at_places s m a (omega arith))
+    ∙ ap (λ xs. (s + a) ∷ xs) (places_at s m (suc a) n (omega arith))
+    ∙ ap (λ b. (s + a) ∷ places b n) next
+
+-- a part of a part
+part_again : {X : Type 0} (xs : List X) (s m a n : ℕ) → a + n ≤ m →
+    take n (drop a (take m (drop s xs))) ≡ take n (drop (s + a) xs)
+part_again xs s m a n le =
+    let size : m ≡ a + (m - a) = omega arith in
+    ap (λ i. take n (drop a (take i (drop s xs)))) size
+    ∙ ap (take n) (drop-take a (m - a) (drop s xs))
+    ∙ take-take n (m - a) (drop a (drop s xs)) (omega arith)
+    ∙ ap (take n) (drop-drop a s xs)
+
+-- the steps to come, with the first of them split off
+steps_split : (number : ℕ) (steps : List Step) →
+    drop number steps ≡ only number steps ++ drop (number + 1) steps
+steps_split number steps = sym (take-append-drop 1 (drop number steps))
+    ∙ ap (λ (ss : List Step). only number steps ++ ss) (drop-drop 1 number steps)
+
+module _ (steps : List Step) (read : Read) (number start stop : ℕ)
+    (in_steps : number < length steps) (order : start ≤ stop) (within : stop ≤ length read.qual)
+    (same : length read.qual ≡ length read.seq) where
+  abbrev at_hand : Part
+  at_hand = cut start (stop - start) (whole read)
+
+  abbrev read_scores : List ℕ
+  read_scores = scores read.encoding read.qual
+
+  hand_scores : scores read.encoding at_hand.qual
+      ≡ map (at read_scores) (places start (stop - start))
+  hand_scores = let size = length-scores read.encoding read.qual in
+      scores_of_part read.encoding read.qual start (stop - start)
+      ∙ sym (scores_at read_scores start (stop - start) (omega arith))
+
+  one_more : (ns : List ℕ) → kept (only number steps) (scores read.encoding at_hand.qual) ≡ ns →
+      kept_of (drop number steps) read_scores (places start (stop - start))
+      ≡ kept_of (drop (number + 1) steps) read_scores
+      (map (at (places start (stop - start))) ns)
+  one_more ns is =
+      let ps = places start (stop - start) in
+      ap (λ (ss : List Step). kept_of ss read_scores ps) (steps_split number steps)
+      ∙ kept_append (only number steps) (drop (number + 1) steps) read_scores ps
+      ∙ ap (kept_of (drop (number + 1) steps) read_scores)
+      (kept_within (only number steps) read_scores ps
+      ∙ ap (λ (xs : List ℕ). map (at ps) (kept (only number steps) xs)) (sym hand_scores)
+      ∙ ap (map (at ps)) is)
+
+  -- a step that keeps something
+  pub places_kept : (k : Kept) → kept (only number steps) (scores read.encoding at_hand.qual)
+      ≡ places k.start (k.stop - k.start) → k.stop ≤ length at_hand.qual →
+      kept_of (drop number steps) read_scores (places start (stop - start))
+      ≡ kept_of (drop (number + 1) steps) read_scores
+      (places (start + k.start) (start + k.stop - (start + k.start)))
+  places_kept k is fits =
+      let some = k.some in
+      let size : length at_hand.qual ≡ stop - start =
+      length-take-le (stop - start) (drop start read.qual)
+      (omega (arith, length-drop start read.qual)) in
+      let n : k.stop - k.start ≡ start + k.stop - (start + k.start) = omega arith in
+      one_more (places k.start (k.stop - k.start)) is
+      ∙ ap (kept_of (drop (number + 1) steps) read_scores)
+      (places_at start (stop - start) k.start (k.stop - k.start) (omega arith)
+      ∙ ap (places (start + k.start)) n)
+
+  -- a step that keeps nothing
+  pub places_dropped : kept (only number steps) (scores read.encoding at_hand.qual) ≡ [] →
+      kept_of (drop number steps) read_scores (places start (stop - start)) ≡ []
+  places_dropped is = one_more [] is ∙ kept_none (drop (number + 1) steps) read_scores
+
+  -- the same of the course
+  pub cut_kept : (k : Kept) → kept (only number steps) (scores read.encoding at_hand.qual) ≡ places
+      k.start (k.stop - k.start) → k.stop ≤ length at_hand.qual →
+      course_of number (drop number (alone steps)) at_hand
+      ≡ kept_course number k.start (k.stop - k.start) at_hand
+      (course_of (number + 1) (drop (number + 1) (alone steps))
+      (cut (start + k.start) (start + k.stop - (start + k.start)) (whole read)))
+  cut_kept k is fits =
+      let some = k.some in
+      let m = stop - start in
+      let count = k.stop - k.start in
+      let size : length at_hand.qual ≡ m = length-take-le m (drop start read.qual)
+      (omega (arith, length-drop start read.qual)) in
+      let seq_size : length at_hand.seq ≡ m =
+      length-take-le m (drop start read.seq) (omega (arith, length-drop start read.seq)) in
+      let all = alone_length steps in
+      let n : count ≡ start + k.stop - (start + k.start) = omega arith in
+      let seq = part_again read.seq start m k.start count (omega arith) in
+      let qual = part_again read.qual start m k.start count (omega arith) in
+      let to : Part → Course = λ p. kept_course number k.start count at_hand
+      (course_of (number + 1) (drop (number + 1) (alone steps)) p) in
+      next_kept number (alone steps) read.encoding at_hand.seq at_hand.qual k (omega arith)
+      (ap (λ (s : List Step). kept s (scores read.encoding at_hand.qual))
+      (alone_at steps number in_steps) ∙ is) fits (omega arith)
+      ∙ ap (λ (xs : List ℕ). to (part read.encoding xs (take count (drop k.start at_hand.qual))))
+      seq
+      ∙ ap (λ (xs : List ℕ). to (part read.encoding (take count (drop (start + k.start) read.seq))
+      xs)) qual
+      ∙ ap (λ (i : ℕ). to (cut (start + k.start) i (whole read))) n
+
+  -- a step that keeps no place of what is left drops the read
+  pub cut_dropped : kept (only number steps) (scores read.encoding at_hand.qual) ≡ [] →
+      course_of number (drop number (alone steps)) at_hand ≡ record {
+        left =
+            part read.encoding [] [];
+        front = 0;
+        shortened = [];
+        dropped = number ∷ [];
+      }
+  cut_dropped is =
+      let all = alone_length steps in
+      next_dropped number (alone steps) read.encoding at_hand.seq at_hand.qual (omega arith)
+      (ap (λ (s : List Step). kept s (scores read.encoding at_hand.qual))
+      (alone_at steps number in_steps) ∙ is)

@@ -1,0 +1,275 @@
+-- Rows of a few reads, of which a vector holds some.
+use Rattle.std.proofs.Common.{◌≡◌, ℕ, zero, suc, ◌+◌, ◌<◌, ◌≤◌, true, false, nat_le, List, [], ◌∷◌, ◌++◌, length, take, map, get_or, replicate, refl, ap, ap₂, sym, ◌∙◌, arith, eqb, max, Fits, w8, w16, subst}
+use Rattle.std.specs.List.{list_all}
+use Rattle.std.proofs.lemmas.List.{append_assoc, length-append, length-replicate, length-map, map-append, get_or_past, replicate-append-replicate, map-id, append-nil}
+use Rattle.std.proofs.lemmas.Bool.{cond-true, cond-false, and_parts, le-leb, leb-true, ne_eqb}
+use Rattle.fq_text.specs.declared.encoding.Encoding.{Encoding}
+use Rattle.fq_text.specs.Scores.{is_scored, value_of, lowest}
+use Rattle.fq_text.proofs.ScoreLemmas.{value_small, low_base}
+use Rattle.fq_trim.specs.Keeping.{scores}
+use Rattle.fq_trim.specs.Sums.{capped_sum}
+use Rattle.fq_report_reads.specs.Rows.{rows_plus}
+use Rattle.fq_report_reads.proofs.RowLemmas.{plus_none, length-rows_plus}
+use Rattle.std.proofs.lemmas.Simd.{Each1-from_get_or, Each1-chunk, Each2-of}
+use lib.Lanes.{Each1, Each2, zip2, chunk, put_chunk}
+use Rattle.fq_report_reads.specs.Counting.{AtMost, IsFew, lane_score, one_if, placed}
+use Rattle.fq_report_reads.proofs.PositionLemmas.{Small, grown_within}
+
+-- A vector is added from a row on.
+
+stored_first : (xs ys : List ℕ) → AtMost 65535 xs → AtMost 65535 ys → (n : ℕ) → n ≡ length ys →
+    n ≤ length xs →
+    put_chunk 0 xs (zip2 (λ a b. a + b) (take n xs) ys) ≡ rows_plus xs ys
+stored_first [] [] few small zero is room = refl
+stored_first [] [] few small (suc n) is room = absurd (omega arith)
+stored_first [] (y ∷ ys) few small n is room = absurd (omega arith)
+stored_first (x ∷ xs) [] few small zero is room = refl
+stored_first (x ∷ xs) [] few small (suc n) is room = absurd (omega arith)
+stored_first (x ∷ xs) (y ∷ ys) few small zero is room = absurd (omega arith)
+stored_first (x ∷ xs) (y ∷ ys) few small (suc n) is room =
+    let a : x ≤ 65535 = few 0 in
+    let b : y ≤ 65535 = small 0 in
+    let both : x + y ≡ capped_sum x y = omega arith in
+    ap₂ (λ z zs. z ∷ zs) both (stored_first xs ys (λ k. few (suc k)) (λ k. small (suc k)) n
+    (omega arith) (omega arith))
+
+-- storing the sums of a chunk and a vector adds the vector to the rows from its place on
+pub stored_plus : (at : ℕ) (xs ys : List ℕ) → AtMost 65535 xs → AtMost 65535 ys → (n : ℕ) →
+    n ≡ length ys → at + n ≤ length xs →
+    put_chunk at xs (zip2 (λ a b. a + b) (chunk at n xs) ys) ≡ rows_plus xs (replicate at 0 ++ ys)
+stored_plus zero xs ys few small n is room = stored_first xs ys few small n is (omega arith)
+stored_plus (suc at) [] ys few small n is room = absurd (omega arith)
+stored_plus (suc at) (x ∷ xs) ys few small n is room =
+    let a : x ≤ 65535 = few 0 in
+    let same : x ≡ capped_sum x 0 = omega arith in
+    ap₂ (λ z zs. z ∷ zs) same (stored_plus at xs ys (λ k. few (suc k)) small n is (omega arith))
+
+each_at_most : (most : ℕ) (xs : List ℕ) → AtMost most xs → Each1 (λ x. x ≤ most) xs
+each_at_most most xs small = Each1-from_get_or (λ x. x ≤ most) xs 0 (λ i _. small i)
+
+-- counts of at most 254, with at most 1 added to each, fit into 8 bits
+pub byte_sums : (at : ℕ) (xs ys : List ℕ) → AtMost 254 xs → AtMost 1 ys →
+    Each2 (λ x y. Fits w8 (x + y)) (chunk at 32 xs) ys
+byte_sums at xs ys few ones =
+    Each2-of (λ x. x ≤ 254) (λ y. y ≤ 1) (λ x y. Fits w8 (x + y))
+    (λ x y p q. let fits : x + y < 256 = omega arith in record { fits = fits })
+    (chunk at 32 xs) ys (Each1-chunk (λ x. x ≤ 254) at 32 xs (each_at_most 254 xs few))
+    (each_at_most 1 ys ones)
+
+-- counts of at most 65,280, with a byte added to each, fit into 16 bits
+pub word_sums : (at : ℕ) (xs ys : List ℕ) → AtMost 65280 xs → Each1 (λ y. y ≤ 255) ys →
+    Each2 (λ x y. Fits w16 (x + y)) (chunk at 32 xs) (map (λ (x : ℕ). x) ys)
+word_sums at xs ys few bytes =
+    subst (λ zs. Each2 (λ x y. Fits w16 (x + y)) (chunk at 32 xs) zs) (sym (map-id ys)) (
+    Each2-of (λ x. x ≤ 65280) (λ y. y ≤ 255) (λ x y. Fits w16 (x + y))
+    (λ x y p q. let fits : x + y < 65536 = omega arith in record { fits = fits })
+    (chunk at 32 xs) ys (Each1-chunk (λ x. x ≤ 65280) at 32 xs (each_at_most 65280 xs few)) bytes)
+
+bytes_small : (ys : List ℕ) → Each1 (λ y. y ≤ 255) ys → AtMost 65535 ys
+bytes_small [] each k = let none = get_or_past {X = ℕ} [] k 0 (omega arith) in omega arith
+bytes_small (y ∷ ys) each zero = let first : y ≤ 255 = each.0 in let least : y ≤ 65535 =
+    omega arith in least
+bytes_small (y ∷ ys) each (suc k) = bytes_small ys each.1 k
+
+-- a vector of at most 1 per lane is added to counts of 8 bits from its place on
+pub stored_bytes : (at : ℕ) (xs ys : List ℕ) → AtMost 254 xs → AtMost 1 ys → length ys ≡ 32 →
+    at + 32 ≤ length xs →
+    put_chunk at xs (zip2 (λ a b. a + b) (chunk at 32 xs) ys) ≡ rows_plus xs (replicate at 0 ++ ys)
+stored_bytes at xs ys few ones long room =
+    stored_plus at xs ys (λ k. let one = few k in omega arith) (λ k. let one = ones k in
+    omega arith) 32 (sym long) room
+
+-- a vector of bytes is added to counts of 16 bits from its place on
+pub stored_words : (at : ℕ) (xs ys : List ℕ) → AtMost 65280 xs → Each1 (λ y. y ≤ 255) ys →
+    length ys ≡ 32 → at + 32 ≤ length xs →
+    put_chunk at xs (zip2 (λ a b. a + b) (chunk at 32 xs) (map (λ (x : ℕ). x) ys))
+    ≡ rows_plus xs (replicate at 0 ++ ys)
+stored_words at xs ys few bytes long room =
+    ap (λ zs. put_chunk at xs (zip2 (λ a b. a + b) (chunk at 32 xs) zs)) (map-id ys)
+    ∙ stored_plus at xs ys (λ k. let one = few k in
+    omega arith) (bytes_small ys bytes) 32 (sym long) room
+
+-- Sums of rows of a few reads.
+
+plus_at_most : (xs ys : List ℕ) (k : ℕ) → get_or (rows_plus xs ys) k 0 ≤ get_or xs k 0 + get_or ys k
+    0
+plus_at_most [] ys k = omega arith
+plus_at_most (x ∷ xs) [] k = omega arith
+plus_at_most (x ∷ xs) (y ∷ ys) zero = let least : capped_sum x y ≤ x + y = omega arith in least
+plus_at_most (x ∷ xs) (y ∷ ys) (suc k) = plus_at_most xs ys k
+
+shifted_at_most : (at most : ℕ) (ys : List ℕ) → AtMost most ys → AtMost most (replicate at 0 ++ ys)
+shifted_at_most zero most ys small k = small k
+shifted_at_most (suc at) most ys small zero = let least : 0 ≤ most = omega arith in least
+shifted_at_most (suc at) most ys small (suc k) = shifted_at_most at most ys small k
+
+length-shifted : (at : ℕ) (ys : List ℕ) → length (replicate at 0 ++ ys) ≡ at + length ys
+length-shifted at ys = length-append (replicate at 0) ys
+    ∙ ap (λ n. n + length ys) (length-replicate {A = ℕ} at 0)
+
+-- with at most `more` added to each of some rows, none is above `most + more`
+pub row_more : (rows len len' most more most' at n : ℕ) (xs ys : List ℕ) → IsFew rows len most xs →
+    AtMost more ys → length ys ≡ n → len ≤ len' → at + n ≤ len' → at + n ≤ rows →
+    most + more ≤ most' → IsFew rows len' most' (rows_plus xs (replicate at 0 ++ ys))
+row_more rows len len' most more most' at n xs ys few small long order within room bound =
+    let zs : List ℕ = replicate at 0 ++ ys in
+    let size = few.size in
+    let long_zs = length-shifted at ys in
+    let sum = λ (k : ℕ). plus_at_most xs zs k in
+    record {
+      size = omega (arith, length-rows_plus xs zs);
+      behind = λ k from.
+          let left = few.behind k (omega arith) in
+          let right = get_or_past zs k 0 (omega arith) in
+          let both = sum k in
+          omega arith;
+      small = λ k.
+          let left = few.small k in
+          let right = shifted_at_most at more ys small k in
+          let both = sum k in
+          omega arith;
+    }
+
+-- the rows that are reached, of a sum
+cut_plus : (xs zs : List ℕ) (len len' : ℕ) → ((k : ℕ) → len ≤ k → get_or xs k 0 ≡ 0) → Small zs →
+    len' ≡ max len (length zs) → len' ≤ length xs →
+    take len' (rows_plus xs zs) ≡ rows_plus (take len xs) zs
+cut_plus xs [] len len' behind small is room =
+    let same : len' ≡ len = omega arith in
+    ap (take len') (plus_none xs) ∙ ap (λ n. take n xs) same ∙ sym (plus_none (take len xs))
+cut_plus [] (z ∷ zs) len len' behind small is room = absurd (omega arith)
+cut_plus (x ∷ xs) (z ∷ zs) len zero behind small is room = absurd (omega arith)
+cut_plus (x ∷ xs) (z ∷ zs) zero (suc len') behind small is room =
+    let none : x ≡ 0 = behind 0 (omega arith) in
+    let few : z ≤ 18446744073709551615 = small 0 in
+    let first : capped_sum x z ≡ z = omega arith in
+    ap₂ (λ n ns. n ∷ ns) first (cut_plus xs zs zero len' (λ k _. behind (suc k) (omega arith))
+    (λ k. small (suc k)) (omega arith) (omega arith))
+cut_plus (x ∷ xs) (z ∷ zs) (suc len) (suc len') behind small is room =
+    ap (λ ns. capped_sum x z ∷ ns) (cut_plus xs zs len len' (λ k from. behind (suc k) (omega arith))
+    (λ k. small (suc k)) (omega arith) (omega arith))
+
+-- rows can be added before or after they are cut to those that were reached
+pub row_cut : (rows len len' most more at n : ℕ) (xs ys : List ℕ) → IsFew rows len most xs →
+    AtMost more ys → length ys ≡ n → more ≤ 255 → len' ≡ max len (at + n) → len' ≤ rows →
+    take len' (rows_plus xs (replicate at 0 ++ ys)) ≡ rows_plus (take len xs) (replicate at 0 ++ ys)
+row_cut rows len len' most more at n xs ys few small long bound is room =
+    let zs : List ℕ = replicate at 0 ++ ys in
+    let size = few.size in
+    let long_zs = length-shifted at ys in
+    let most_zs = shifted_at_most at more ys small in
+    cut_plus xs zs len len' few.behind (λ k. let one = most_zs k in
+    omega arith) (omega arith) (omega arith)
+
+-- zeros after a vector change nothing
+plus_zeros_behind : (xs ys : List ℕ) (k : ℕ) → Small xs → length ys + k ≤ length xs →
+    rows_plus xs (ys ++ replicate k 0) ≡ rows_plus xs ys
+plus_zeros_behind xs [] k small room = sym (grown_within xs k small (omega arith))
+    ∙ sym (plus_none xs)
+plus_zeros_behind [] (y ∷ ys) k small room = absurd (omega arith)
+plus_zeros_behind (x ∷ xs) (y ∷ ys) k small room =
+    ap (λ ns. capped_sum x y ∷ ns) (plus_zeros_behind xs ys k (λ j. small (suc j)) (omega arith))
+
+-- What is counted of vectors.
+
+-- up to position 10,000, numbers by position are the numbers at their places
+pub placed_short : (at : ℕ) (ns : List ℕ) → at + length ns ≤ 10000 →
+    placed at ns ≡ replicate at 0 ++ ns
+placed_short at ns short =
+    cond-true (nat_le (length (replicate at 0 ++ ns)) 10000) _ _
+    (le-leb (length (replicate at 0 ++ ns)) 10000 (omega (arith, length-shifted at ns)))
+
+scored_low : (e : Encoding) (b : ℕ) → is_scored e b ≡ true → 33 ≤ b
+scored_low e b is =
+    let low = low_base e in
+    let least : lowest e ≤ b =
+    leb-true (lowest e) b (and_parts (nat_le (lowest e) b) (nat_le b 126) is).0 in
+    omega arith
+
+not_none : (e : Encoding) (b : ℕ) → is_scored e b ≡ true → eqb b 0 ≡ false
+not_none e b is = let low = scored_low e b is in ne_eqb b 0 (λ z. omega arith)
+
+-- the scores of lanes with a base each are the scores of these bases
+pub lanes_scores : (e : Encoding) (q : List ℕ) → list_all (is_scored e) q ≡ true →
+    map (lane_score e) q ≡ scores e q
+lanes_scores e [] all = refl
+lanes_scores e (b ∷ bs) all =
+    let parts = and_parts (is_scored e b) (list_all (is_scored e) bs) all in
+    ap₂ (λ n ns. n ∷ ns) (cond-false (eqb b 0) 0 (value_of e b) (not_none e b parts.0))
+    (lanes_scores e bs parts.1)
+
+-- lanes with a base each count 1 for each
+pub lanes_bases : (e : Encoding) (q s : List ℕ) → list_all (is_scored e) q ≡ true →
+    length q ≡ length s → map (one_if (nat_le 1)) q ≡ map (λ _. 1) s
+lanes_bases e [] [] all same = refl
+lanes_bases e [] (c ∷ s) all same = absurd (omega arith)
+lanes_bases e (b ∷ q) [] all same = absurd (omega arith)
+lanes_bases e (b ∷ q) (c ∷ s) all same =
+    let parts = and_parts (is_scored e b) (list_all (is_scored e) q) all in
+    let low = scored_low e b parts.0 in
+    ap₂ (λ n ns. n ∷ ns) (cond-true (nat_le 1 b) 1 0 (le-leb 1 b (omega arith)))
+    (lanes_bases e q s parts.1 (omega arith))
+
+-- of lanes without a base nothing is counted
+pub zeros_mapped : (f : ℕ → ℕ) → f 0 ≡ 0 → (k : ℕ) → map f (replicate k 0) ≡ replicate k 0
+zeros_mapped f none zero = refl
+zeros_mapped f none (suc k) = ap₂ (λ n ns. n ∷ ns) none (zeros_mapped f none k)
+
+-- numbers behind k zeros are the same numbers, k places further on
+pub zeros_in_front : (f : ℕ → ℕ) → f 0 ≡ 0 → (at k : ℕ) (xs : List ℕ) →
+    replicate at 0 ++ map f (replicate k 0 ++ xs) ≡ replicate (at + k) 0 ++ map f xs
+zeros_in_front f none at k xs =
+    ap (λ ns. replicate at 0 ++ ns) (map-append f (replicate k 0) xs
+    ∙ ap (λ ns. ns ++ map f xs) (zeros_mapped f none k))
+    ∙ sym (append_assoc (replicate at 0) (replicate k 0) (map f xs))
+    ∙ ap (λ ns. ns ++ map f xs) (replicate-append-replicate at k 0)
+
+-- zeros after some numbers add nothing to a row
+pub row_behind : (f : ℕ → ℕ) → f 0 ≡ 0 → (rows len most at k : ℕ) (xs ys : List ℕ) →
+    IsFew rows len most xs → most ≤ 65535 → at + (length ys + k) ≤ rows →
+    rows_plus xs (replicate at 0 ++ map f (ys ++ replicate k 0))
+    ≡ rows_plus xs (replicate at 0 ++ map f ys)
+row_behind f none rows len most at k xs ys few bound room =
+    let size = few.size in
+    let small : Small xs = λ j. let one = few.small j in omega arith in
+    ap (λ ns. rows_plus xs (replicate at 0 ++ ns)) (map-append f ys (replicate k 0)
+    ∙ ap (λ ns. map f ys ++ ns) (zeros_mapped f none k))
+    ∙ ap (rows_plus xs) (sym (append_assoc (replicate at 0) (map f ys) (replicate k 0)))
+    ∙ plus_zeros_behind xs (replicate at 0 ++ map f ys) k small
+    (omega (arith, length-shifted at (map f ys), length-map ys f))
+
+-- if each number is at most this, so are all of a list
+pub mapped_at_most : (f : ℕ → ℕ) (most : ℕ) → ((x : ℕ) → f x ≤ most) → (xs : List ℕ) →
+    AtMost most (map f xs)
+mapped_at_most f most small [] k = let least : 0 ≤ most = omega arith in least
+mapped_at_most f most small (x ∷ xs) zero = small x
+mapped_at_most f most small (x ∷ xs) (suc k) = mapped_at_most f most small xs k
+
+-- no score is above 93
+pub scores_at_most : (e : Encoding) (q : List ℕ) → list_all (is_scored e) q ≡ true →
+    AtMost 93 (map (lane_score e) q)
+scores_at_most e [] all k = let least : 0 ≤ 93 = omega arith in least
+scores_at_most e (b ∷ bs) all zero =
+    let parts = and_parts (is_scored e b) (list_all (is_scored e) bs) all in
+    let same = cond-false (eqb b 0) 0 (value_of e b) (not_none e b parts.0) in
+    let small = value_small e b parts.0 in
+    let most : lane_score e b ≤ 93 = omega arith in most
+scores_at_most e (b ∷ bs) all (suc k) = scores_at_most e bs
+    (and_parts (is_scored e b) (list_all (is_scored e) bs) all).1 k
+
+-- rows such as some reads can give are such as more reads can give that reach further
+pub row_weaker : (rows rows' len len' most most' : ℕ) (xs : List ℕ) → IsFew rows len most xs →
+    rows' ≤ rows → len ≤ len' → most ≤ most' → IsFew rows' len' most' xs
+row_weaker rows rows' len len' most most' xs few less order bound = record {
+  size = let size = few.size in omega arith;
+  behind = λ k from. few.behind k (omega arith);
+  small = λ k. let one = few.small k in omega arith;
+}
+
+-- adding no numbers changes nothing
+pub row_nothing : (rows len most at : ℕ) (xs : List ℕ) → IsFew rows len most xs → most ≤ 65535 →
+    at ≤ rows → xs ≡ rows_plus xs (replicate at 0 ++ [])
+row_nothing rows len most at xs few bound within =
+    let size = few.size in
+    let small : Small xs = λ k. let one = few.small k in omega arith in
+    grown_within xs at small (omega arith) ∙ ap (rows_plus xs) (sym (append-nil (replicate at 0)))

@@ -1,0 +1,254 @@
+-- Bases that are counted by vectors, one after the other.
+use Rattle.std.proofs.Common.{◌≡◌, ℕ, zero, suc, ◌+◌, ◌<◌, ◌≤◌, Bool, true, false, List, [], ◌∷◌, ◌++◌, length, take, drop, map, set, get_or, replicate, refl, ap, ap₂, sym, ◌∙◌, arith, eqb, max, subst, ◌-◌, ◌||◌, take-add}
+use Rattle.std.specs.List.{list_all}
+use Rattle.std.proofs.lemmas.List.{append_assoc, length-take-le, length-map, take-append-drop, take_all, length-drop, drop-drop, drop_more, get_or_at, set_at, map_more}
+use Rattle.std.proofs.lemmas.List.Folds.{list_all-append}
+use Rattle.std.proofs.lemmas.Bool.{and_parts, and_from}
+use Rattle.fq_text.specs.declared.encoding.Encoding.{Encoding}
+use Rattle.fq_text.specs.Scores.{is_scored}
+use Rattle.fq_trim.specs.Keeping.{scores}
+use Rattle.fq_trim.proofs.PlaceLemmas.{all_taken, all_dropped}
+use Rattle.fq_report_reads.specs.declared.columns.Columns.{Columns}
+use Rattle.std.proofs.lemmas.Simd.{length-chunk}
+use lib.Lanes.{chunk}
+use Rattle.fq_report_reads.specs.Counting.{is_lane, most_reads}
+use Rattle.fq_report_reads.specs.Columns.{AreFew, HoldsFew, columns_from, columns_plus, first_rows, lanes_at}
+use Rattle.fq_report_reads.proofs.ColumnLemmas.{columns_assoc, columns_joined, few_weaker, lanes_are_columns, lanes_behind, lanes_cut, lanes_more, lanes_moved, lanes_nothing}
+
+-- Lanes that hold scored bytes, and zeros beside them.
+
+or_true : (a b : Bool) → b ≡ true → a || b ≡ true
+or_true true b is = refl
+or_true false b is = is
+
+-- bytes that have scores are valid lanes
+pub scored_lanes : (e : Encoding) (q : List ℕ) → list_all (is_scored e) q ≡ true →
+    list_all (is_lane e) q ≡ true
+scored_lanes e [] all = refl
+scored_lanes e (b ∷ bs) all =
+    let parts = and_parts (is_scored e b) (list_all (is_scored e) bs) all in
+    and_from _ _ (or_true (eqb b 0) (is_scored e b) parts.0) (scored_lanes e bs parts.1)
+
+-- zeros, and then bytes that have scores, are valid lanes
+pub lanes_in_front : (e : Encoding) (k : ℕ) (q : List ℕ) → list_all (is_scored e) q ≡ true →
+    list_all (is_lane e) (replicate k 0 ++ q) ≡ true
+lanes_in_front e zero q all = scored_lanes e q all
+lanes_in_front e (suc k) q all = lanes_in_front e k q all
+
+no_lanes : (e : Encoding) (k : ℕ) → list_all (is_lane e) (replicate k 0) ≡ true
+no_lanes e zero = refl
+no_lanes e (suc k) = no_lanes e k
+
+-- bytes that have scores, and then zeros, are valid lanes
+pub lanes_then_none : (e : Encoding) (k : ℕ) (q : List ℕ) → list_all (is_scored e) q ≡ true →
+    list_all (is_lane e) (q ++ replicate k 0) ≡ true
+lanes_then_none e k q all = list_all-append (is_lane e) q (replicate k 0)
+    ∙ and_from _ _ (scored_lanes e q all) (no_lanes e k)
+
+-- counting no bases in the rows of a few reads changes nothing
+pub nothing_counted : (x : Columns) (rows len reads at : ℕ) (e : Encoding) →
+    AreFew rows len reads x → reads ≤ 254 → at ≤ 10000 → at ≤ rows →
+    x ≡ columns_plus x (columns_from at e [] [])
+nothing_counted x rows len reads at e few bound near within =
+    lanes_nothing x rows len reads at e few bound within
+    ∙ ap (columns_plus x) (lanes_are_columns at e [] [] refl refl (omega arith))
+
+-- What is counted of one read.
+module _ (start now : Columns) (at from : ℕ) (e : Encoding) (seq qual : List ℕ)
+    (so_far : now ≡ columns_plus start (columns_from at e (take from seq) (take from qual)))
+    (same : length qual ≡ length seq) (near : at + length qual ≤ 10000)
+    (scored : list_all (is_scored e) qual ≡ true) (within : from ≤ length seq) where
+  front_s : length (take from seq) ≡ from
+  front_s = length-take-le from seq within
+
+  front_q : length (take from qual) ≡ from
+  front_q = length-take-le from qual (omega arith)
+
+  front_scored : list_all (is_scored e) (take from qual) ≡ true
+  front_scored = all_taken (is_scored e) qual from scored
+
+  rest_scored : list_all (is_scored e) (drop from qual) ≡ true
+  rest_scored = all_dropped (is_scored e) qual from scored
+
+  -- after one more full vector, the bases up to its end are counted
+  pub vector_next : (new : Columns) → from + 32 ≤ length seq →
+      new ≡ columns_plus now (lanes_at (at + from) e (chunk from 32 seq) (chunk from 32 qual)) →
+      new ≡ columns_plus start (columns_from at e (take (from + 32) seq) (take (from + 32) qual))
+  vector_next new room here =
+      let s = length-chunk from 32 seq room in
+      let q = length-chunk from 32 qual (omega arith) in
+      let fs = front_s in
+      let fq = front_q in
+      let all = all_taken (is_scored e) (drop from qual) 32 rest_scored in
+      here
+      ∙ ap₂ columns_plus so_far (lanes_are_columns (at + from) e (chunk from 32 seq) (chunk from 32
+      qual) all (omega arith) (omega arith))
+      ∙ columns_assoc start (columns_from at e (take from seq) (take from qual))
+      (columns_from (at + from) e (chunk from 32 seq) (chunk from 32 qual))
+      ∙ ap (columns_plus start) (columns_joined at (at + from) e (take from seq) (take from qual)
+      (chunk from 32 seq) (chunk from 32 qual) (omega arith) (omega arith) (omega arith)
+      (omega arith) (omega arith) front_scored all)
+      ∙ ap₂ (λ x y. columns_plus start (columns_from at e x y)) (sym (take-add from 32 seq))
+      (sym (take-add from 32 qual))
+
+  -- after the bases that were left, all are counted
+  pub rest_next : (new : Columns) →
+      new ≡ columns_plus now (columns_from (at + from) e (drop from seq) (drop from qual)) →
+      new ≡ columns_plus start (columns_from at e seq qual)
+  rest_next new here =
+      let s = length-drop from seq in
+      let q = length-drop from qual in
+      let fs = front_s in
+      let fq = front_q in
+      here
+      ∙ ap (λ x. columns_plus x (columns_from (at + from) e (drop from seq) (drop from qual)))
+      so_far
+      ∙ columns_assoc start (columns_from at e (take from seq) (take from qual))
+      (columns_from (at + from) e (drop from seq) (drop from qual))
+      ∙ ap (columns_plus start) (columns_joined at (at + from) e (take from seq) (take from qual)
+      (drop from seq) (drop from qual) (omega arith) (omega arith) (omega arith) (omega arith)
+      (omega arith) front_scored rest_scored)
+      ∙ ap₂ (λ x y. columns_plus start (columns_from at e x y)) (take-append-drop from seq)
+      (take-append-drop from qual)
+
+  -- if no bases are left, all are counted
+  pub all_counted : length seq ≤ from → now ≡ columns_plus start (columns_from at e seq qual)
+  all_counted done = so_far ∙ ap₂ (λ x y. columns_plus start (columns_from at e x y))
+      (take_all from seq done) (take_all from qual (omega arith))
+
+  -- while a read is counted, the rows are such as 254 reads can give
+  pub still_few : (rows : ℕ) → at + length qual ≤ rows → AreFew rows 10032 253 start →
+      AreFew rows 10032 254 now
+  still_few rows room few =
+      let fs = front_s in
+      let fq = front_q in
+      let more = lanes_more start rows 10032 10032 253 at e (take from seq) (take from qual) few
+      front_scored (omega arith) (omega arith) (omega arith) (omega arith) in
+      subst (λ x. AreFew rows 10032 254 x) (ap (columns_plus start) (lanes_are_columns at e
+      (take from seq) (take from qual) front_scored (omega arith) (omega arith))
+      ∙ sym so_far) more
+
+-- The last bases of a read, in the last lanes of a vector and in the first.
+pub rest_in_last : (old new : Columns) (at from start k : ℕ) (e : Encoding)
+    (seq qual bases bytes : List ℕ) → start + k ≡ from →
+    bases ≡ replicate k 0 ++ drop k (drop start seq) →
+    bytes ≡ replicate k 0 ++ drop k (drop start qual) →
+    length qual ≡ length seq → at + length qual ≤ 10000 → from ≤ length seq →
+    list_all (is_scored e) qual ≡ true →
+    new ≡ columns_plus old (lanes_at (at + start) e bases bytes) →
+    new ≡ columns_plus old (columns_from (at + from) e (drop from seq) (drop from qual))
+rest_in_last old new at from start k e seq qual bases bytes place s q same near within scored here =
+    let ls = length-drop from seq in
+    let lq = length-drop from qual in
+    here
+    ∙ ap₂ (λ x y. columns_plus old (lanes_at (at + start) e x y)) s q
+    ∙ ap (columns_plus old) (lanes_moved (at + start) k e (drop k (drop start seq)) (drop k
+    (drop start qual)))
+    ∙ ap₂ (λ x y. columns_plus old (lanes_at (at + start + k) e x y)) (drop-drop k start seq
+    ∙ ap (λ n. drop n seq) place) (drop-drop k start qual ∙ ap (λ n. drop n qual) place)
+    ∙ ap (λ n. columns_plus old (lanes_at n e (drop from seq) (drop from qual))) (omega arith)
+    ∙ ap (columns_plus old) (lanes_are_columns (at + from) e (drop from seq) (drop from qual)
+    (all_dropped (is_scored e) qual from scored) (omega arith) (omega arith))
+
+-- the last bases of a read are counted from the first lanes of a vector, with zeros after them
+pub rest_in_first : (old new : Columns) (rows at from k m : ℕ) (e : Encoding)
+    (seq qual bases bytes : List ℕ) →
+    bases ≡ drop from seq ++ replicate k 0 → bytes ≡ drop from qual ++ replicate m 0 →
+    k ≡ 32 - length (drop from seq) → m ≡ 32 - length (drop from qual) →
+    length qual ≡ length seq → at + length qual ≤ 10000 → from ≤ length seq →
+    length seq ≤ from + 32 → list_all (is_scored e) qual ≡ true → at + (from + 32) ≤ rows →
+    AreFew rows 10032 254 old →
+    new ≡ columns_plus old (lanes_at (at + from) e bases bytes) →
+    new ≡ columns_plus old (columns_from (at + from) e (drop from seq) (drop from qual))
+rest_in_first old new rows at from k m e seq qual bases bytes s q k_is m_is same near within less
+    scored room few here =
+    let ls = length-drop from seq in
+    let lq = length-drop from qual in
+    let equal : m ≡ k = omega arith in
+    here
+    ∙ ap₂ (λ x y. columns_plus old (lanes_at (at + from) e x y)) s (q
+    ∙ ap (λ n. drop from qual ++ replicate n 0) equal)
+    ∙ lanes_behind old rows 10032 254 (at + from) k e (drop from seq) (drop from qual) few
+    (omega arith) (omega arith) (omega arith)
+    ∙ ap (columns_plus old) (lanes_are_columns (at + from) e (drop from seq) (drop from qual)
+    (all_dropped (is_scored e) qual from scored) (omega arith) (omega arith))
+
+-- One more read among a few, in rows that reach as far as it does.
+module _ (at : ℕ) (e : Encoding) (seq qual : List ℕ) {x y : Columns}
+    {last reached reached' reads : ℕ} (holds : HoldsFew last reached reads x)
+    (reach : reached' ≡ max reached (at + length seq)) (fits : at + length seq ≤ last)
+    (here : y ≡ columns_plus x (columns_from at e seq qual)) (same : length qual ≡ length seq)
+    (scored : list_all (is_scored e) qual ≡ true) where
+  as_lanes : lanes_at at e seq qual ≡ columns_from at e seq qual
+  as_lanes = let near = holds.near in lanes_are_columns at e seq qual scored same (omega arith)
+
+  -- with totals and the rows that were reached, it is counted besides what these were
+  pub read_added : (totals : Columns) {t : Columns} →
+      columns_plus totals (first_rows reached x) ≡ t →
+      columns_plus totals (first_rows reached' y) ≡ columns_plus t (columns_from at e seq qual)
+  read_added totals view =
+      let within = holds.within in
+      ap (λ z. columns_plus totals (first_rows reached' z)) (here ∙ ap (columns_plus x)
+      (sym as_lanes))
+      ∙ ap (columns_plus totals) (lanes_cut x (last + 32) reached reached' reads at e seq qual
+      holds.few scored same reach (omega arith))
+      ∙ ap (λ z. columns_plus totals (columns_plus (first_rows reached x) z)) as_lanes
+      ∙ sym (columns_assoc totals (first_rows reached x) (columns_from at e seq qual))
+      ∙ ap (λ z. columns_plus z (columns_from at e seq qual)) view
+
+  -- the rows are such as one more read can give
+  read_few : AreFew (last + 32) reached' (reads + 1) y
+  read_few =
+      let near = holds.near in
+      let room = holds.room in
+      subst (λ z. AreFew (last + 32) reached' (reads + 1) z) (ap (columns_plus x) as_lanes
+      ∙ sym here)
+      (lanes_more x (last + 32) reached reached' reads at e seq qual holds.few scored same
+      (omega arith) (omega arith) (omega arith))
+
+  -- if there is room for a further read, these are again a few
+  pub read_held : reads + 1 < most_reads → HoldsFew last reached' (reads + 1) y
+  read_held more =
+      let within = holds.within in
+      record { few = read_few; within = omega arith; near = holds.near; room = more }
+
+  -- the rows that were reached are such as the most reads that a counter holds can give
+  pub read_full : AreFew reached' reached' most_reads y
+  read_full =
+      let within = holds.within in
+      let room = holds.room in
+      few_weaker y (last + 32) reached' reached' reached' (reads + 1) most_reads read_few
+      (omega arith) (omega arith) (omega arith)
+
+  -- after all were moved, the counter holds none
+  pub read_moved : (z : Columns) →
+      ((rows : ℕ) → AreFew rows reached' most_reads y → AreFew rows 0 0 z) → HoldsFew last 0 0 z
+  read_moved z none =
+      let room = holds.room in
+      let rows = last + 32 in
+      record {
+        few = none rows (few_weaker y rows rows reached' reached' (reads + 1) most_reads read_few
+            (omega arith) (omega arith) (omega arith));
+        within = omega arith;
+        near = holds.near;
+        room = omega arith;
+      }
+
+-- One more byte is converted.
+pub converted_next : (f : ℕ → ℕ) (bytes scores : List ℕ) (i r : ℕ) →
+    scores ≡ map f (take i bytes) ++ drop i bytes → i < length bytes → r ≡ f (get_or scores i 0) →
+    set scores i r ≡ map f (take (i + 1) bytes) ++ drop (i + 1) bytes
+converted_next f bytes scores i r so_far within here =
+    let front : List ℕ = map f (take i bytes) in
+    let rest : List ℕ = drop (i + 1) bytes in
+    let b = get_or bytes i 0 in
+    let size : length front ≡ i = length-map (take i bytes) f
+    ∙ length-take-le i bytes (omega arith) in
+    let parts : scores ≡ front ++ (b ∷ rest) = so_far
+    ∙ ap (λ xs. front ++ xs) (drop_more bytes i 0 within) in
+    let value : r ≡ f b = here ∙ ap (λ xs. f (get_or xs i 0)) parts
+    ∙ ap f (get_or_at front b rest 0 i size) in
+    ap₂ (λ xs x. set xs i x) parts value
+    ∙ set_at front b rest (f b) i size
+    ∙ sym (append_assoc front (f b ∷ []) rest)
+    ∙ ap (λ xs. xs ++ rest) (sym (map_more f bytes i 0 within))

@@ -1,0 +1,246 @@
+-- The bases of a side by their position, as they are counted once each.
+use Rattle.std.proofs.Common.{◌≡◌, ℕ, ◌+◌, ◌-◌, ◌≤◌, Bool, true, false, cond, Some, List, ◌++◌, length, take, drop, refl, ap, ap₂, sym, ◌∙◌, arith}
+use Rattle.std.specs.List.{list_all}
+use Rattle.std.proofs.lemmas.List.{take_all, take_rest, take-append-drop, length-drop, length-take-le}
+use Rattle.fq_text.specs.declared.encoding.Encoding.{Encoding}
+use Rattle.fq_text.specs.Grammar.{Read, IsLawful}
+use Rattle.fq_text.specs.Scores.{is_scored}
+use Rattle.fq_trim.specs.declared.trimming.Kept.{Kept}
+use Rattle.fq_trim.specs.KeptPlaces.{places_of}
+use Rattle.fq_trim.proofs.PlaceLemmas.{all_taken, all_dropped}
+use Rattle.fq_report_reads.specs.declared.columns.Columns.{Columns}
+use Rattle.fq_report_reads.specs.declared.side_positions.SidePositions.TheInside.{Inside}
+use Rattle.fq_report_reads.specs.Courses.{part_at, whole}
+use Rattle.fq_report_reads.specs.Columns.{no_columns, columns_from, columns_of, columns_plus}
+use Rattle.fq_report_reads.proofs.ColumnLemmas.{columns_assoc, columns_joined}
+use Rattle.fq_report_reads.specs.Parts.{AreBases}
+use Rattle.fq_report_reads.specs.SideColumns.{SideColumns, with_before, with_after, with_columns, side_columns_plus}
+use Rattle.fq_report_reads.proofs.CourseLemmas.{part}
+use Rattle.fq_report_reads.proofs.SideColumnSums.{columns_swap, columns_four}
+use Rattle.fq_report_reads.proofs.SideLemmas.{kept_is_left, kept_part}
+
+-- the columns of a side, from the five that are counted
+abbrev pub side_of : Columns → Columns → Columns → Columns → Columns → SideColumns
+side_of paired unpaired rest paired_moved unpaired_moved = record {
+  before = columns_plus rest (columns_plus paired unpaired);
+  paired = columns_plus paired paired_moved;
+  unpaired = columns_plus unpaired unpaired_moved;
+}
+
+abbrev three : Columns → Columns → Columns → SideColumns
+three before paired unpaired = record { before = before; paired = paired; unpaired = unpaired }
+
+three_are : {b b' p p' u u' : Columns} → b ≡ b' → p ≡ p' → u ≡ u' → three b p u ≡ three b' p' u'
+three_are b p u = cc
+
+-- the columns of a side with these five counters
+abbrev pub side_in : Inside → SideColumns
+side_in p = side_of p.paired.value p.unpaired.value p.rest.value p.paired_moved.value
+    p.unpaired_moved.value
+
+-- One counter of a side counts more: what it counted, y, and the columns x.
+module _ (p : Inside) (x : Columns) {y now : Columns} {t : SideColumns} (view : side_in p ≡ t)
+    (more : now ≡ columns_plus y x) where
+  counted : {counter : Columns} → y ≡ counter → now ≡ columns_plus counter x
+  counted was = more ∙ ap (λ z. columns_plus z x) was
+
+  -- bases counted in the rest are counted as they were read, and not after trimming
+  pub rest_more : y ≡ p.rest.value → side_of p.paired.value p.unpaired.value now
+      p.paired_moved.value p.unpaired_moved.value ≡ with_before x t
+  rest_more was =
+      ap (λ z. side_of p.paired.value p.unpaired.value z p.paired_moved.value
+      p.unpaired_moved.value) (counted was)
+      ∙ three_are (columns_swap p.rest.value x (columns_plus p.paired.value p.unpaired.value)) refl
+      refl
+      ∙ ap (with_before x) view
+
+  module _ {survives : Bool} where
+    -- bases counted as moved and paired are left of a read that survives with its mate
+    pub paired_moved_more : y ≡ p.paired_moved.value → survives ≡ true →
+        side_of p.paired.value p.unpaired.value p.rest.value now p.unpaired_moved.value
+        ≡ with_after x survives t
+    paired_moved_more was is =
+        ap (λ z. side_of p.paired.value p.unpaired.value p.rest.value z p.unpaired_moved.value)
+        (counted was)
+        ∙ three_are refl (sym (columns_assoc p.paired.value p.paired_moved.value x)) refl
+        ∙ ap₂ (with_after x) (sym is) view
+
+    -- bases counted as moved and unpaired are left of a read that survives alone
+    pub unpaired_moved_more : y ≡ p.unpaired_moved.value → survives ≡ false →
+        side_of p.paired.value p.unpaired.value p.rest.value p.paired_moved.value now
+        ≡ with_after x survives t
+    unpaired_moved_more was is =
+        ap (side_of p.paired.value p.unpaired.value p.rest.value p.paired_moved.value)
+        (counted was)
+        ∙ three_are refl refl (sym (columns_assoc p.unpaired.value p.unpaired_moved.value x))
+        ∙ ap₂ (with_after x) (sym is) view
+
+    -- bases counted as paired are counted both as they were read and as left with a mate
+    pub paired_more : y ≡ p.paired.value → survives ≡ true →
+        side_of now p.unpaired.value p.rest.value p.paired_moved.value p.unpaired_moved.value
+        ≡ with_before x (with_after x survives t)
+    paired_more was is =
+        ap (λ z. side_of z p.unpaired.value p.rest.value p.paired_moved.value
+        p.unpaired_moved.value) (counted was)
+        ∙ three_are
+        (ap (columns_plus p.rest.value) (columns_swap p.paired.value x p.unpaired.value)
+        ∙ sym (columns_assoc p.rest.value (columns_plus p.paired.value p.unpaired.value) x))
+        (columns_swap p.paired.value x p.paired_moved.value) refl
+        ∙ ap₂ (λ b s. with_before x (with_after x b s)) (sym is) view
+
+    -- bases counted as unpaired are counted both as they were read and as left alone
+    pub unpaired_more : y ≡ p.unpaired.value → survives ≡ false →
+        side_of p.paired.value now p.rest.value p.paired_moved.value p.unpaired_moved.value
+        ≡ with_before x (with_after x survives t)
+    unpaired_more was is =
+        ap (λ z. side_of p.paired.value z p.rest.value p.paired_moved.value
+        p.unpaired_moved.value) (counted was)
+        ∙ three_are
+        (ap (columns_plus p.rest.value) (sym (columns_assoc p.paired.value p.unpaired.value x))
+        ∙ sym (columns_assoc p.rest.value (columns_plus p.paired.value p.unpaired.value) x))
+        refl (columns_swap p.unpaired.value x p.unpaired_moved.value)
+        ∙ ap₂ (λ b s. with_before x (with_after x b s)) (sym is) view
+
+-- columns of two counters, added in turn to none
+pub both_added : {none first both x y a b : Columns} → none ≡ no_columns →
+    first ≡ columns_plus none x → x ≡ a → both ≡ columns_plus first y → y ≡ b →
+    both ≡ columns_plus a b
+both_added {x = x} {y = y} {a = a} none_is first_is x_is both_is y_is =
+    both_is
+    ∙ ap (λ z. columns_plus z y) (first_is ∙ ap (λ z. columns_plus z x) none_is ∙ x_is)
+    ∙ ap (columns_plus a) y_is
+
+-- sides added up
+pub side_of_both : (p u r v w p' u' r' v' w' : Columns) →
+    side_of (columns_plus p p') (columns_plus u u') (columns_plus r r') (columns_plus v v')
+    (columns_plus w w') ≡ side_columns_plus (side_of p u r v w) (side_of p' u' r' v' w')
+side_of_both p u r v w p' u' r' v' w' =
+    three_are
+    (ap (columns_plus (columns_plus r r')) (columns_four p p' u u')
+    ∙ columns_four r r' (columns_plus p u) (columns_plus p' u'))
+    (columns_four p p' v v')
+    (columns_four u u' w w')
+
+-- a base that is counted in place is one of those before
+pub in_place : (x rest all : Columns) (mate_survives : Bool) (t : SideColumns) →
+    columns_plus x rest ≡ all →
+    with_before x (with_after x mate_survives (with_before rest t))
+    ≡ with_before all (with_after x mate_survives t)
+in_place x rest all mate_survives t is =
+    let before : columns_plus (columns_plus t.before rest) x ≡ columns_plus t.before all =
+    columns_swap t.before rest x ∙ columns_assoc t.before x rest ∙ ap (columns_plus t.before) is in
+    three_are before refl refl
+
+-- a read of which bases are kept
+survivor_columns : (read : Read) (k : Kept) (mate_survives : Bool) (t : SideColumns) →
+    with_columns read (part_at (places_of (Some k)) (whole read)) mate_survives t
+    ≡ with_before (columns_of (whole read))
+    (with_after (columns_of (part_at (places_of (Some k)) (whole read))) mate_survives t)
+survivor_columns read k mate_survives t =
+    let left = part_at (places_of (Some k)) (whole read) in
+    ap (λ (b : Bool). with_before (columns_of (whole read))
+    (cond b (with_after (columns_of left) mate_survives t) t)) (kept_is_left read k)
+
+-- all bases of a read, and those that are left, are what is counted of it
+pub left_counted : (read : Read) (k : Kept) (mate_survives : Bool) (t : SideColumns) (e : Encoding)
+    (seq qual : List ℕ) → e ≡ read.encoding → seq ≡ read.seq → qual ≡ read.qual →
+    k.stop ≤ length read.seq → length read.qual ≡ length read.seq →
+    with_before (columns_of (whole read)) (with_after
+    (columns_from 0 e (take (k.stop - k.start) (drop k.start seq))
+    (take (k.stop - k.start) (drop k.start qual))) mate_survives t)
+    ≡ with_columns read (part_at (places_of (Some k)) (whole read)) mate_survives t
+left_counted read k mate_survives t e seq qual e_is seq_is qual_is within same =
+    ap (λ (x : Columns). with_before (columns_of (whole read)) (with_after x mate_survives t))
+    (ap columns_of (kept_part read k e seq qual e_is seq_is qual_is within same))
+    ∙ sym (survivor_columns read k mate_survives t)
+
+-- a read that lost nothing at its start, and is cut after what is left
+pub cut_columns : (read : Read) (k : Kept) (e : Encoding) (seq qual : List ℕ) → e ≡ read.encoding →
+    seq ≡ read.seq → qual ≡ read.qual →
+    k.stop ≤ length read.seq → length read.qual ≡ length read.seq → length read.seq ≤ 1048576 →
+    list_all (is_scored read.encoding) read.qual ≡ true → k.start ≡ 0 →
+    columns_plus
+    (columns_from 0 e (take (k.stop - k.start) (drop k.start seq))
+    (take (k.stop - k.start) (drop k.start qual)))
+    (columns_from k.stop e (take (length seq - k.stop) (drop k.stop seq))
+    (take (length qual - k.stop) (drop k.stop qual))) ≡ columns_of (whole read)
+cut_columns read k e seq qual e_is seq_is qual_is within same few scored start =
+    let seq_len = ap length seq_is in
+    let qual_len = ap length qual_is in
+    let size : k.stop - k.start ≡ k.stop = omega arith in
+    let seq_front = length-take-le k.stop seq (omega arith) in
+    let qual_front = length-take-le k.stop qual (omega arith) in
+    let seq_rest = length-drop k.stop seq in
+    let qual_rest = length-drop k.stop qual in
+    let all : list_all (is_scored e) qual ≡ true = rw (e_is, qual_is) scored in
+    let read_is : part e seq qual ≡ whole read = cc in
+    let behind = columns_from k.stop e (take (length seq - k.stop) (drop k.stop seq))
+    (take (length qual - k.stop) (drop k.stop qual)) in
+    let left : Columns = columns_from 0 e (take k.stop seq) (take k.stop qual) in
+    ap (λ (n : ℕ). columns_plus (columns_from 0 e (take n (drop k.start seq)) (take n
+    (drop k.start qual))) behind) size
+    ∙ ap (λ (n : ℕ). columns_plus (columns_from 0 e (take k.stop (drop n seq)) (take k.stop
+    (drop n qual))) behind) start
+    ∙ ap (λ (xs : List ℕ). columns_plus left
+    (columns_from k.stop e xs (take (length qual - k.stop) (drop k.stop qual))))
+    (take_rest seq k.stop)
+    ∙ ap (λ (xs : List ℕ). columns_plus left (columns_from k.stop e (drop k.stop seq) xs))
+    (take_rest qual k.stop)
+    ∙ columns_joined 0 k.stop e (take k.stop seq) (take k.stop qual) (drop k.stop seq)
+    (drop k.stop qual) (omega arith) (omega arith) (omega arith) (omega arith) (omega arith)
+    (all_taken (is_scored e) qual k.stop all) (all_dropped (is_scored e) qual k.stop all)
+    ∙ ap (λ (xs : List ℕ). columns_from 0 e xs (take k.stop qual ++ drop k.stop qual))
+    (take-append-drop k.stop seq)
+    ∙ ap (columns_from 0 e seq) (take-append-drop k.stop qual)
+    ∙ ap columns_of read_is
+
+-- a read that lost nothing
+pub all_columns : (read : Read) (k : Kept) (e : Encoding) (seq qual : List ℕ) → e ≡ read.encoding →
+    seq ≡ read.seq → qual ≡ read.qual →
+    length read.seq ≤ k.stop → length read.qual ≡ length read.seq → k.start ≡ 0 →
+    columns_from 0 e (take (k.stop - k.start) (drop k.start seq))
+    (take (k.stop - k.start) (drop k.start qual)) ≡ columns_of (whole read)
+all_columns read k e seq qual e_is seq_is qual_is all same start =
+    let seq_len = ap length seq_is in
+    let qual_len = ap length qual_is in
+    let size : k.stop - k.start ≡ k.stop = omega arith in
+    let read_is : part e seq qual ≡ whole read = cc in
+    ap (λ (n : ℕ). columns_from 0 e (take n (drop k.start seq)) (take n (drop k.start qual))) size
+    ∙ ap (λ (n : ℕ). columns_from 0 e (take k.stop (drop n seq)) (take k.stop (drop n qual))) start
+    ∙ ap (λ (xs : List ℕ). columns_from 0 e xs (take k.stop qual))
+    (take_all k.stop seq (omega arith))
+    ∙ ap (columns_from 0 e seq) (take_all k.stop qual (omega arith))
+    ∙ ap columns_of read_is
+
+-- The bases of a read between two places.
+pub between_are_bases : (read : Read) (e : Encoding) (seq qual : List ℕ) (from n at : ℕ) →
+    IsLawful read → e ≡ read.encoding → seq ≡ read.seq → qual ≡ read.qual →
+    from + n ≤ length read.seq → at ≤ from →
+    AreBases e (take n (drop from seq)) (take n (drop from qual)) at
+between_are_bases read e seq qual from n at lawful e_is seq_is qual_is within order =
+    let seq_len = ap length seq_is in
+    let qual_len = ap length qual_is in
+    let same = lawful.same_len in
+    let fits = lawful.seq_fits in
+    let seq_rest = length-drop from seq in
+    let qual_rest = length-drop from qual in
+    let seq_size = length-take-le n (drop from seq) (omega arith) in
+    let qual_size = length-take-le n (drop from qual) (omega arith) in
+    let scored : list_all (is_scored e) qual ≡ true = rw (e_is, qual_is) lawful.scores in
+    record {
+      few = omega arith;
+      scored =
+          all_taken (is_scored e) (drop from qual) n (all_dropped (is_scored e) qual from scored);
+      same = omega arith;
+    }
+
+-- what is kept of a read
+pub kept_are_bases : (read : Read) (k : Kept) (e : Encoding) (seq qual : List ℕ) →
+    IsLawful read → e ≡ read.encoding → seq ≡ read.seq → qual ≡ read.qual →
+    k.stop ≤ length read.seq →
+    AreBases e (take (k.stop - k.start) (drop k.start seq))
+    (take (k.stop - k.start) (drop k.start qual)) 0
+kept_are_bases read k e seq qual lawful e_is seq_is qual_is within =
+    let order = k.some in
+    between_are_bases read e seq qual k.start (k.stop - k.start) 0 lawful e_is seq_is qual_is
+    (omega arith) (omega arith)

@@ -1,0 +1,227 @@
+-- A read whose bases are counted in parts.
+use Rattle.std.proofs.Common.{◌≡◌, ℕ, ◌+◌, ◌-◌, ◌≤◌, Bool, true, not, ◌&&◌, cond, nat_le, Some, List, length, take, drop, count_by, sum, refl, ap, sym, ◌∙◌, arith}
+use Rattle.std.specs.List.{sum_by, list_all}
+use Rattle.std.proofs.lemmas.List.{length-map, length-drop, length-take-le, drop-drop, take_rest}
+use Rattle.std.proofs.lemmas.List.Sums.{sum_by-take-drop, count_by-le-length}
+use Rattle.fq_text.specs.declared.encoding.Encoding.{Encoding}
+use Rattle.fq_text.specs.Scores.{is_scored}
+use Rattle.fq_text.specs.Grammar.{Read}
+use Rattle.fq_trim.specs.declared.trimming.Kept.{Kept}
+use Rattle.fq_trim.specs.Keeping.{scores, places}
+use Rattle.fq_trim.specs.KeptPlaces.{places_of}
+use Rattle.fq_trim.specs.Sums.{capped_sum}
+use Rattle.fq_trim.proofs.PlaceLemmas.{length-places, length-scores, scores_at, scores_of_part, sum_small}
+use Rattle.fq_trim.proofs.KeptLemmas.{kept_survives}
+use Rattle.fq_report_reads.specs.declared.bases.BaseTally.{BaseTally}
+use Rattle.fq_report_reads.specs.declared.reads.ReadsTally.{ReadsTally}
+use Rattle.fq_report_reads.specs.declared.side.SideTally.{SideTally}
+use Rattle.fq_report_reads.specs.declared.steps.StepsTally.{StepsTally}
+use Rattle.fq_report_reads.specs.Rows.{counted, counted_if}
+use Rattle.fq_report_reads.specs.Courses.{Part, part_at, whole, survives}
+use Rattle.fq_report_reads.specs.Letters.{is_gc, is_n}
+use Rattle.fq_report_reads.specs.SideColumns.{SideColumns, with_columns}
+use Rattle.fq_report_reads.specs.SideTallies.{bases_of, bases_plus, with_part, with_left}
+use Rattle.fq_report_reads.proofs.CourseLemmas.{part, cut}
+use Rattle.fq_report_reads.proofs.LeftLaws.{at, not_empty}
+
+-- a sum over a list is that over its front, its middle and its end
+three : (f : ℕ → ℕ) (xs : List ℕ) (a b n : ℕ) → a ≤ b → n ≡ length xs →
+    sum_by f (take a xs) + sum_by f (take (b - a) (drop a xs)) + sum_by f (take (n - b) (drop b xs))
+    ≡ sum_by f xs
+three f xs a b n order size =
+    let first = sum_by-take-drop f xs a in
+    let next = sum_by-take-drop f (drop a xs) (b - a) in
+    let place : a + (b - a) ≡ b = omega arith in
+    let rest : sum_by f (drop (b - a) (drop a xs)) ≡ sum_by f (drop b xs) =
+    ap (sum_by f) (drop-drop (b - a) a xs ∙ ap (λ i. drop i xs) place) in
+    let last : sum_by f (take (n - b) (drop b xs)) ≡ sum_by f (drop b xs) =
+    ap (λ m. sum_by f (take (m - b) (drop b xs))) size ∙ ap (sum_by f) (take_rest xs b) in
+    omega arith
+
+-- sums of so little are exact
+exact : (front left behind all : ℕ) → front + left + behind ≡ all → all ≤ 132120576 →
+    capped_sum (capped_sum left front) behind ≡ all
+exact front left behind all is few = omega arith
+
+-- the bases before a place
+abbrev pub part_before : Encoding → List ℕ → List ℕ → ℕ → Part
+part_before e seq qual a = part e (take a seq) (take a qual)
+
+-- the bases from a place on
+abbrev pub part_from : Encoding → List ℕ → List ℕ → ℕ → Part
+part_from e seq qual b = part e (take (length seq - b) (drop b seq))
+    (take (length qual - b) (drop b qual))
+
+module _ (e : Encoding) (seq qual : List ℕ) (a b : ℕ) (order : a ≤ b) (within : b ≤ length seq)
+    (same : length qual ≡ length seq) (few : length seq ≤ 1048576) where
+  abbrev left_part : Part
+  left_part = cut a (b - a) (part e seq qual)
+
+  letters : (test : ℕ → Bool) →
+      capped_sum (capped_sum (count_by test left_part.seq) (count_by test
+      (part_before e seq qual a).seq)) (count_by test (part_from e seq qual b).seq)
+      ≡ count_by test seq
+  letters test =
+      let parts = three (λ (x : ℕ). cond (test x) 1 0) seq a b (length seq) order refl in
+      let most = count_by-le-length test seq in
+      exact (count_by test (part_before e seq qual a).seq) (count_by test left_part.seq)
+      (count_by test (part_from e seq qual b).seq) (count_by test seq) parts (omega arith)
+
+  in_scores : (f : ℕ → ℕ) → sum_by f (scores e (part_before e seq qual a).qual) + sum_by f
+      (scores e left_part.qual) + sum_by f (scores e (part_from e seq qual b).qual)
+      ≡ sum_by f (scores e qual)
+  in_scores f =
+      let size = length-scores e qual in
+      let front = ap (sum_by f) (scores_of_part e qual 0 a) in
+      let left = ap (sum_by f) (scores_of_part e qual a (b - a)) in
+      let behind = ap (sum_by f) (scores_of_part e qual b (length qual - b)) in
+      let parts = three f (scores e qual) a b (length qual) order (sym size) in
+      omega arith
+
+  over : (least : ℕ) →
+      capped_sum (capped_sum (count_by (nat_le least) (scores e left_part.qual)) (count_by
+      (nat_le least) (scores e (part_before e seq qual a).qual)))
+      (count_by (nat_le least) (scores e (part_from e seq qual b).qual))
+      ≡ count_by (nat_le least) (scores e qual)
+  over least =
+      let size = length-scores e qual in
+      let most = count_by-le-length (nat_le least) (scores e qual) in
+      let parts = in_scores (λ (x : ℕ). cond (nat_le least x) 1 0) in
+      exact (count_by (nat_le least) (scores e (part_before e seq qual a).qual))
+      (count_by (nat_le least) (scores e left_part.qual))
+      (count_by (nat_le least) (scores e (part_from e seq qual b).qual))
+      (count_by (nat_le least) (scores e qual)) parts (omega arith)
+
+  -- what is counted before what is left, of it, and after it is what is counted of all
+  pub counted_in_parts : list_all (is_scored e) qual ≡ true →
+      bases_plus (bases_plus (bases_of left_part) (bases_of (part_before e seq qual a)))
+      (bases_of (part_from e seq qual b)) ≡ bases_of (part e seq qual)
+  counted_in_parts scored =
+      let small = sum_small e qual scored in
+      let front_len = length-take-le a seq (omega arith) in
+      let left_len = length-take-le (b - a) (drop a seq) (omega (arith, length-drop a seq)) in
+      let behind_len = length-take-le (length seq - b) (drop b seq)
+      (omega (arith, length-drop b seq)) in
+      let lens = exact (length (part_before e seq qual a).seq) (length left_part.seq)
+      (length (part_from e seq qual b).seq) (length seq) (omega arith) (omega arith) in
+      let low = over 20 in
+      let high = over 30 in
+      let sums = exact (sum (scores e (part_before e seq qual a).qual))
+      (sum (scores e left_part.qual)) (sum (scores e (part_from e seq qual b).qual))
+      (sum (scores e qual)) (in_scores (λ (x : ℕ). x)) (omega arith) in
+      let gc = letters is_gc in
+      let n = letters is_n in
+      cc
+
+-- the bases G or C of a read are among its bases, of which there are few
+pub few_bases : (p : Part) (b : BaseTally) → b ≡ bases_of p → length p.seq ≤ 1048576 →
+    (b.bases ≤ 1048576) × (b.gc ≤ b.bases)
+few_bases p b is few =
+    let bases = ap (λ (t : BaseTally). t.bases) is in
+    let gc = ap (λ (t : BaseTally). t.gc) is in
+    let most = count_by-le-length is_gc p.seq in
+    (omega arith, omega arith)
+
+-- what is kept of a read, as the part between two places
+pub kept_part : (read : Read) (k : Kept) (e : Encoding) (seq qual : List ℕ) → e ≡ read.encoding →
+    seq ≡ read.seq → qual ≡ read.qual → k.stop ≤ length read.seq →
+    length read.qual ≡ length read.seq →
+    cut k.start (k.stop - k.start) (part e seq qual) ≡ part_at (places_of (Some k)) (whole read)
+kept_part read k e seq qual e_is seq_is qual_is within same =
+    let order = k.some in
+    let s = scores_at read.seq k.start (k.stop - k.start) (omega arith) in
+    let q = scores_at read.qual k.start (k.stop - k.start) (omega arith) in
+    ap (λ (x : Encoding). cut k.start (k.stop - k.start) (part x seq qual)) e_is
+    ∙ ap (λ (xs : List ℕ). cut k.start (k.stop - k.start) (part read.encoding xs qual)) seq_is
+    ∙ ap (λ (xs : List ℕ). cut k.start (k.stop - k.start) (part read.encoding read.seq xs)) qual_is
+    ∙ ap (λ (xs : List ℕ). part read.encoding xs (take (k.stop - k.start) (drop k.start read.qual)))
+    (sym s)
+    ∙ ap (λ (xs : List ℕ). part read.encoding (part_at (places_of (Some k)) (whole read)).seq xs)
+    (sym q)
+
+-- what is left of a read has as many bases as there are places from start up to stop
+pub kept_length : (k : Kept) (p : Part) → length (part_at (places_of (Some k)) p).seq ≡ k.stop -
+    k.start
+kept_length k p = length-map (places k.start (k.stop - k.start)) (at p.seq)
+    ∙ length-places k.start (k.stop - k.start)
+
+-- the counts of what is kept of a read are those of so many bases
+pub kept_counts : (read : Read) (k : Kept) (b : BaseTally) →
+    b ≡ bases_of (part_at (places_of (Some k)) (whole read)) → k.stop ≤ length read.seq →
+    length read.seq ≤ 1048576 →
+    (k.stop - k.start ≡ b.bases) × ((b.bases ≤ 1048576) × (b.gc ≤ b.bases))
+kept_counts read k b is within few =
+    let size = kept_length k (whole read) in (
+      sym (ap (λ (t : BaseTally). t.bases) is ∙ size),
+      few_bases (part_at (places_of (Some k)) (whole read)) b is (omega arith),
+    )
+
+-- a read of which places are kept survives
+pub kept_is_left : (read : Read) (k : Kept) →
+    survives (part_at (places_of (Some k)) (whole read)) ≡ true
+kept_is_left read k = ap not (not_empty (at read.seq) (places_of (Some k))
+    ∙ kept_survives (places_of (Some k)) (Some k) k refl refl)
+
+-- a read of which bases are kept
+pub survivor : (read : Read) (k : Kept) (mate_survives : Bool) (t : SideTally) →
+    with_left read (part_at (places_of (Some k)) (whole read)) k.start mate_survives t ≡ record {
+      before = with_part (whole read) t.before;
+      paired = cond mate_survives (with_part (part_at (places_of (Some k)) (whole read)) t.paired)
+          t.paired;
+      unpaired =
+          cond (not mate_survives) (with_part (part_at (places_of (Some k)) (whole read))
+          t.unpaired)
+          t.unpaired;
+      front = capped_sum t.front k.start;
+      behind = capped_sum t.behind (length read.seq - k.stop);
+      removed_front = counted k.start t.removed_front;
+      removed_behind = counted (length read.seq - k.stop) t.removed_behind;
+      positions = with_columns read (part_at (places_of (Some k)) (whole read)) mate_survives
+          t.positions;
+      steps = t.steps;
+    }
+survivor read k mate_survives t =
+    let left = part_at (places_of (Some k)) (whole read) in
+    let order = k.some in
+    let size = kept_length k (whole read) in
+    let is = kept_is_left read k in
+    let removed : length read.seq - k.start - length left.seq ≡ length read.seq - k.stop =
+    omega arith in
+    let made : Bool → ℕ → SideTally = λ b behind. record {
+      before = with_part (whole read) t.before;
+      paired = cond (b && mate_survives) (with_part left t.paired) t.paired;
+      unpaired = cond (b && not mate_survives) (with_part left t.unpaired) t.unpaired;
+      front = cond b (capped_sum t.front k.start) t.front;
+      behind = cond b (capped_sum t.behind behind) t.behind;
+      removed_front = counted_if b k.start t.removed_front;
+      removed_behind = counted_if b behind t.removed_behind;
+      positions = with_columns read left mate_survives t.positions;
+      steps = t.steps;
+    } in
+    ap (λ (b : Bool). made b (length read.seq - k.start - length left.seq)) is
+    ∙ ap (made true) removed
+
+-- the counts of a side, given its parts
+abbrev pub made_of : ReadsTally → ReadsTally → ReadsTally → ℕ → ℕ → List ℕ → List ℕ → SideColumns →
+    StepsTally → SideTally
+made_of before paired unpaired front behind removed_front removed_behind positions steps = record {
+  before = before;
+  paired = paired;
+  unpaired = unpaired;
+  front = front;
+  behind = behind;
+  removed_front = removed_front;
+  removed_behind = removed_behind;
+  positions = positions;
+  steps = steps;
+}
+
+-- sides of the same parts
+pub parts_are : {before before' paired paired' unpaired unpaired' : ReadsTally}
+    {front front' behind behind' : ℕ} {f f' b b' : List ℕ} {p p' : SideColumns}
+    {steps steps' : StepsTally} →
+    before ≡ before' → paired ≡ paired' → unpaired ≡ unpaired' → front ≡ front' → behind ≡ behind' →
+    f ≡ f' → b ≡ b' → p ≡ p' → steps ≡ steps' →
+    made_of before paired unpaired front behind f b p steps
+    ≡ made_of before' paired' unpaired' front' behind' f' b' p' steps'
+parts_are a b c d e f g h i = cc

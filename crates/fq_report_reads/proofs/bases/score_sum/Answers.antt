@@ -1,0 +1,50 @@
+use Rattle.std.proofs.Common.{◌≡◌, ◌+◌, ◌*◌, ◌-◌, ◌≤◌, ap, sym, ◌∙◌, ℕ, true, nat_le, Some, None, unwrap_or, List, [], ◌∷◌, length, sum, arith}
+use Rattle.std.specs.List.{list_all}
+use Rattle.std.proofs.lemmas.List.Sums.{sum_by-cons}
+use Rattle.std.proofs.lemmas.Bool.{and_parts, leb-true}
+use Rattle.fq_text.specs.declared.encoding.Encoding.{Encoding}
+use Rattle.fq_text.specs.declared.encoding.Encoding.TheVariants.{Sanger, Illumina13, Solexa}
+use Rattle.fq_text.specs.Scores.{lowest, offset, is_scored, value_at, value_of}
+use Rattle.fq_trim.specs.Keeping.{scores}
+use Rattle.fq_report_reads.proofs.bases.score_sum.Goals as goal
+
+-- the offset is no more than the lowest byte
+within : (e : Encoding) (off : ℕ) → offset e ≡ Some off → off ≤ lowest e
+within Sanger off is = let same : 33 ≡ off = ap (λ o. unwrap_or o 0) is in omega arith
+within Illumina13 off is = let same : 64 ≡ off = ap (λ o. unwrap_or o 0) is in omega arith
+within Solexa off is = absurd (let none : None ≡ Some off = is in cc)
+
+-- each score is its byte less the offset, so their sums differ by the offset for each byte
+distances : (e : Encoding) (off : ℕ) → offset e ≡ Some off → (qual : List ℕ) →
+    list_all (is_scored e) qual ≡ true → sum (scores e qual) + off * length qual ≡ sum qual
+distances e off is [] all = omega arith
+distances e off is (b ∷ others) all =
+    let parts = and_parts (is_scored e b) (list_all (is_scored e) others) all in
+    let least : lowest e ≤ b =
+    leb-true (lowest e) b (and_parts (nat_le (lowest e) b) (nat_le b 126) parts.0).0 in
+    let score : value_of e b ≡ b - off = ap (λ o. value_at o b) is in
+    let low = within e off is in
+    let rest = distances e off is others parts.1 in
+    let left = sum_by-cons (λ (x : ℕ). x) (value_of e b) (scores e others) in
+    let right = sum_by-cons (λ (x : ℕ). x) b others in
+    omega arith
+
+-- the sum of the bytes is at least the offset times their number
+pub overflow_sub-result : goal.overflow_sub-result
+overflow_sub-result c =
+    omega (
+      arith,
+      distances c.args.encoding c.from.result
+          (sym c.offset.ensures.is ∙ c.in-Some.is ∙ ap Some (sym c.from.ensures))
+          c.args.qual.now c.requires.scored,
+    )
+
+-- the sum of the scores is less by the offset for each byte
+pub returns-in-Some : goal.returns-in-Some
+returns-in-Some c =
+    omega (
+      arith,
+      distances c.args.encoding c.from.result
+          (sym c.offset.ensures.is ∙ c.in-Some.is ∙ ap Some (sym c.from.ensures))
+          c.args.qual.now c.requires.scored,
+    )
