@@ -29,7 +29,7 @@ versions() {
 crates/fq_app_words/src/words.rt | ^pub const VERSION: &str = " | ";$
 crates/fq_test_rows/data/words.rows | ^= text: fq_prog | \\n$
 crates/fq_test_rows/data/report.rows | ^let run reported [0-9]+: "version":" | "\}$
-docs/FORMAT.md | ^ *"version": " | "\}$
+docs/report.example.json | ^ *"version": " | "\}$
 docs/GUIDE.md | tibzharuk- | -oci\.tar
 docs/GUIDE.md | Tibzharuk \(fq_prog\) | , with the steps
 packaging/Containerfile | VERSION= | -t tibz

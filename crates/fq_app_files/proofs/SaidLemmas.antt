@@ -78,6 +78,7 @@ module _ (a : Asking) (start one two three four : FilesState)
   since mid named told kept =
       says_as _ mid (λ (may_say : Errors). MaySay may_say named told) kept
 
+  -- what the devices of all outputs say, of the errors that could be said at the start
   pub four_say : MaySay start.may_say (Some a.forward_paired) errors.forward_paired →
       MaySay one.may_say (Some a.forward_unpaired) errors.forward_unpaired →
       MaySay two.may_say (Some a.reverse_paired) errors.reverse_paired →
