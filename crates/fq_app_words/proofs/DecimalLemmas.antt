@@ -25,12 +25,19 @@ no_hyphen [] digits = refl
 no_hyphen (d ∷ ds) digits = ne_eqb d 45 (λ e. let range = digit_from_value d digits.0 in
     omega (arith, range.0))
 
-is_most : ℕ → Bool
-is_most n = nat_lt n (2 ^ 64) && (nat_le 0 n && nat_le n most)
+unfoldable pub is_below : ℕ → Bool
+is_below n = nat_lt n (2 ^ 64) && (nat_le 0 n && nat_le n most)
 
-small : (n : ℕ) → n < 2 ^ 64 → is_most n ≡ true
-unfolding is_most
+small : (n : ℕ) → n < 2 ^ 64 → is_below n ≡ true
+unfolding is_below
 small n h = grind (arith, lt-ltb n (2 ^ 64) h)
+
+-- digits of a number of 64 bits pass the test of a value
+pub digits_fit : (ds : List ℕ) → 0 < length ds → AllDigits 10 ds → digits_value 10 ds < 2 ^ 64 →
+    (is_numeral ds && is_below (digits_value 10 ds)) ≡ true
+digits_fit ds some digits fits =
+    let all : is_numeral ds ≡ true = rw (lt-ltb 0 (length ds) some) (digits_pass ds digits) in
+    ap₂ (λ a b. a && b) all (small (digits_value 10 ds) fits)
 
 module _ (n : ℕ) (fits : n ≤ most) where
   below : n < 2 ^ 64
@@ -47,14 +54,11 @@ module _ (n : ℕ) (fits : n ≤ most) where
 
   -- the option takes it
   pub decimal_fits : is_unsigned_in 0 most (decimal n) ≡ true
-  unfolding is_most
+  unfolding is_below
   decimal_fits =
       let is = decimal_is_IsNumeral n below in
-      let digits : is_numeral (decimal n) ≡ true =
-      rw (lt-ltb 0 (length (decimal n)) is.0.0) (digits_pass (decimal n) is.0.1) in
-      let size : is_most (digits_value 10 (decimal n)) ≡ true = ap is_most is.1 ∙ small n below in
-      ap (λ ds. is_numeral ds && is_most (digits_value 10 ds)) unsigned
-      ∙ ap₂ (λ a b. a && b) digits size
+      ap (λ ds. is_numeral ds && is_below (digits_value 10 ds)) unsigned
+      ∙ digits_fit (decimal n) is.0.0 is.0.1 (omega (arith, is.1))
 
   -- and it is read as the number
   pub decimal_read : number_of (decimal n) ≡ n

@@ -1,8 +1,7 @@
 mod WordLemmas
 mod WorkedExamples
-mod PlainWordLemmas
+mod RunLemmas
+mod RowLemmas
 mod DecimalLemmas
 mod OptionLemmas
 mod CommandLineLemmas
-mod PairsLineLemmas
-mod MixedLineLemmas

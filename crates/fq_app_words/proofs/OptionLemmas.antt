@@ -1,18 +1,23 @@
 -- What `clap` makes of options before the files, at the built commands.
-use Rattle.std.proofs.Common.{◌≡◌, ◌≤◌, ◌&&◌, ℕ, true, false, if◌then◌else◌, Option, Some, None, List, [], ◌∷◌, ◌++◌, fold, codes, refl, ap, ap₂, ◌∙◌, append_assoc, decimal}
-use Rattle.std.specs.Option.{option_map}
-use Rattle.clap.specs.Kinds.{or_else}
+use Rattle.std.proofs.Common.{◌≡◌, ℕ, ◌&&◌, Bool, not, true, false, if◌then◌else◌, ◌≤◌, decimal, Some, None, List, [], ◌∷◌, ◌++◌, map, flat_map, unwrap_or, codes, refl, ap, ap₂, sym, subst, ◌∙◌, append-nil, append_assoc, is_some, All}
+use Rattle.std.specs.List.{IsDistinct, AllByRecursion}
+use Rattle.std.specs.Option.{option_map_or}
+use Rattle.std.specs.Str.{bytes_eq}
+use Rattle.std.proofs.lemmas.List.Elements.{All-head, All-tail}
+use Rattle.clap.specs.Kinds.{Kinds, or_else, values_kinds}
 use Rattle.clap.specs.Values.{refused_kind}
-use Rattle.clap.specs.declared.error.kind.ErrorKind.TheVariants.{ArgumentConflict}
 use Rattle.clap.specs.declared.builder.value_parser.ValueParser.TheVariants as parser
-use Rattle.clap.specs.Simple.{Shape, new_shape, filled, filled_from, help_rule, version_rule, with_index}
-use Rattle.clap.specs.Walk.{Text, Row, Rule, Held, Walk, option, settled, settled_rows, walked, walk_from, nothing_held, has_row}
-use Rattle.clap.specs.Faults.{settle_fault, turn_fault, walk_fault}
+use Rattle.clap.specs.declared.error.kind.ErrorKind.TheVariants.{ArgumentConflict}
+use Rattle.clap.specs.declared.parser.matches.ValueSource.TheVariants.{CommandLine}
+use Rattle.clap.specs.Simple.{Shape, new_shape, new_rule, filled_from, help_rule, version_rule}
+use Rattle.clap.specs.Walk.{Text, Row, Rule, Held, Waiting, idle, option, arg_by_id, settled_rows, used, used_by_id, with_values, without, values_or_missing, reading_by, option_word, walked}
+use Rattle.clap.specs.Faults.{settle_fault, values_fault, set_fault, repeat_fault, use_fault, turn_fault}
 use Rattle.clap.proofs.OnLiterals.{clap_on_literals}
-use Rattle.fq_app_words.specs.Words.{option_rules, file_rule, output_rules, most}
-use Rattle.fq_app_words.specs.CommandLines.{IsPlainIfGiven, FitsIfGiven, Options, with_value, option_words, ArePlain}
+use Rattle.fq_app_words.specs.Words.{most, option_rules, file_rule, output_rules}
+use Rattle.fq_app_words.specs.CommandLines.{hyphen, IsPlain, Choice, threads, block, depth, chunk, encoding, trimlog, no_name_check, sync, report, explain, name_of, value_of, option_words, IsUsual}
 use Rattle.fq_app_words.proofs.DecimalLemmas.{decimal_plain, decimal_fits}
-use Rattle.fq_app_words.proofs.PlainWordLemmas.{IsWaiting, option_walk, option_walked, option_faultless}
+use Rattle.fq_app_words.proofs.RowLemmas.{look, has_look, look_last, use_row, first_use}
+use Rattle.fq_app_words.proofs.RunLemmas.{run, one_word, standing, plain_run}
 
 -- The built commands.
 
@@ -30,22 +35,9 @@ leaf name others = record (new_shape name) {
   is_built = true;
 }
 
--- a required positional at this place, filled in
-abbrev pub input_at : Text → Rule
-input_at id = with_index 1 (filled (file_rule id))
-
--- the first positional of `PE`, filled in
-abbrev pub pairs_input : Rule
-pairs_input = input_at (codes "F")
-
--- the first positional of `IL`, filled in
-abbrev pub mixed_input : Rule
-mixed_input = input_at (codes "I")
-
 -- the arguments of `PE` after the options, filled in
 abbrev pub pairs_others : List Rule
-pairs_others =
-    filled_from 1 (file_rule (codes "F") ∷ file_rule (codes "R")
+pairs_others = filled_from 1 (file_rule (codes "F") ∷ file_rule (codes "R")
     ∷ (output_rules ++ help_rule ∷ version_rule ∷ []))
 
 -- the arguments of `IL` after the options, filled in
@@ -53,263 +45,231 @@ abbrev pub mixed_others : List Rule
 mixed_others =
     filled_from 1 (file_rule (codes "I") ∷ (output_rules ++ help_rule ∷ version_rule ∷ []))
 
--- the built command `PE`
-abbrev pub pairs_leaf : Shape
-pairs_leaf = leaf (codes "PE") pairs_others
+-- What is held between two words.
 
--- the built command `IL`
-abbrev pub mixed_leaf : Shape
-mixed_leaf = leaf (codes "IL") mixed_others
+-- these rows, and an argument whose values are not a row yet
+abbrev pub pending : List Row → Text → List Text → ℕ → Held
+pending rows id values skip =
+    record { rows = rows; pending = Some (id, values); skip = skip }
+
+-- these are the rows, with that of a pending argument, which is none of the steps and has no fault
+pub record Holds (s : Shape) (rows : List Row) (h : Held) : Type 0 where
+  pub are : settled_rows s.rules h.pending h.rows ≡ rows
+  pub sound : settle_fault s.rules s.args_override_self h ≡ []
+  pub apart : option_map_or (λ p. bytes_eq p.0 (codes "STEPS")) h.pending false ≡ false
+
+-- the words lead from one position to another without a fault, and then these rows are held
+pub record Leads (s : Shape) (from to : ℕ) (h : Held) (words : List Text) (rows : List Row) : Type 0
+  where
+    pub held : Held
+    pub runs : (more : List Text) → run s [] (standing idle from h) (words ++ more)
+        ≡ run s [] (standing idle to held) more
+    pub holds : Holds s rows held
+
+-- words after words
+pub then_lead : (s : Shape) (from by to : ℕ) (h : Held) (first second : List Text)
+    (some rows : List Row) → Leads s from by h first some →
+    ((g : Held) → Holds s some g → Leads s by to g second rows) →
+    Leads s from to h (first ++ second) rows
+then_lead s from by to h first second some rows begins goes_on =
+    let ends = goes_on begins.held begins.holds in
+    record {
+      held = ends.held;
+      runs = λ more. ap (run s [] (standing idle from h)) (append_assoc first second more)
+          ∙ begins.runs (second ++ more) ∙ ends.runs more;
+      holds = ends.holds;
+    }
+
+-- no argument with this id has come
+unrepeated : (again : Bool) (id : Text) (rows : List Row) → look id rows ≡ None →
+    repeat_fault again id rows ≡ []
+unrepeated again id rows none = ap (λ b. if b && not again then ArgumentConflict ∷ [] else [])
+    (has_look id rows ∙ ap is_some none)
+
+-- the argument takes one value in the rows, and once
+abbrev pub IsSingle : Shape → Rule → Text → List Row → Type 0
+IsSingle s a value rows = (arg_by_id s.rules a.id ≡ Some a)
+    × (used a (value ∷ []) rows
+    ≡ with_values a.id (reading_by a) CommandLine (value ∷ []) (without a.id rows))
+    × (use_fault s.args_override_self a (value ∷ []) rows
+    ≡ set_fault s.args_override_self a (value ∷ []) rows)
+    × (bytes_eq a.id (codes "STEPS") ≡ false)
+
+-- what is held after its first use
+pub single_held : (s : Shape) (a : Rule) (value : Text) (rows : List Row) (skip : ℕ) →
+    IsSingle s a value rows → values_fault a (value ∷ []) ≡ [] → look a.id rows ≡ None →
+    Holds s (rows ++ use_row a (value ∷ []) ∷ []) (pending rows a.id (value ∷ []) skip)
+single_held s a value rows skip is valid none = record {
+  are = ap (λ o. used_by_id o (value ∷ []) rows) is.0 ∙ is.1
+      ∙ first_use a (value ∷ []) rows none;
+  sound = ap (λ o. option_map_or (λ b. use_fault s.args_override_self b (value ∷ []) rows) o [])
+      is.0
+      ∙ is.2 ∙ ap₂ or_else (unrepeated s.args_override_self a.id rows none) valid;
+  apart = is.3;
+}
 
 -- Options.
 
--- between two words, if these rows are held
-abbrev pub opened : Held → Walk
-opened h = walk_from h
+-- the filled in argument of an option
+abbrev pub rule_for : Choice → Rule
+rule_for choice = unwrap_or (arg_by_id options (name_of choice)) (new_rule [])
 
--- the option with this id waits for its value
-abbrev pub waiting : List Rule → Text → Held → Walk
-waiting rules id h = record (opened (record (settled rules h) { pending = Some (id, []) })) {
-  waiting = option id;
-}
+-- the row of an option
+abbrev pub choice_row : Choice → Row
+choice_row choice = record (use_row (rule_for choice)
+    (values_or_missing (rule_for choice) (value_of choice))) { id = name_of choice }
 
--- what is held after an option and its value
-abbrev pub with_option : List Rule → Text → Text → Held → Held
-with_option rules id given h = record {
-  rows = settled_rows rules h.pending h.rows;
-  pending = Some (id, given ∷ []);
-  skip = h.skip;
-}
+-- What is known of an option when it comes.
+pub record Comes (s : Shape) (choice : Choice) (h : Held) (rows : List Row) : Type 0 where
+  pub usual : IsUsual choice
+  pub holds : Holds s rows h
+  pub new : look (name_of choice) rows ≡ None
 
--- the word is that of the option with this id
-pub record IsOption (s : Shape) (word id : Text) : Type 0 where
-  -- after the word, the option waits for its value
-  pub opens : (h : Held) → walked s.rules [] (opened h) word ≡ waiting s.rules id h
-  -- the word after it becomes that value
-  pub takes : (given : Text) (h : Held) → option_walk s.rules id (waiting s.rules id h) given
-      ≡ opened
-      (with_option s.rules id given h)
-  -- the only faults at the word are those of the argument that is pending before it
-  pub settles : (h : Held) → turn_fault s [] (opened h) word ≡ or_else
-      (settle_fault s.rules s.args_override_self h) []
+-- the word by which an option is named
+abbrev word_of : Choice → Text
+word_of choice = hyphen ∷ hyphen ∷ name_of choice
 
-module _ (name : Text) (others : List Rule) where
-  -- `--trimlog` is the word of the option `trimlog`
-  pub is_log : IsOption (leaf name others) (codes "--trimlog") (codes "trimlog")
-  unfolding clap_on_literals
-  is_log = record { opens = λ h. refl; takes = λ given h. refl; settles = λ h. refl }
+-- these rows, and no argument whose values are not a row yet
+abbrev closed : List Row → ℕ → Held
+closed rows skip = record { rows = rows; pending = None; skip = skip }
 
-  -- `--report` is the word of the option `report`
-  pub is_report : IsOption (leaf name others) (codes "--report") (codes "report")
-  unfolding clap_on_literals
-  is_report = record { opens = λ h. refl; takes = λ given h. refl; settles = λ h. refl }
+module _ {s : Shape} {choice : Choice} {h : Held} {rows : List Row}
+    (comes : Comes s choice h rows) where
+  -- an option that takes a value, if its words are read so
+  valued : (value : Text) → IsPlain value →
+      let a = rule_for choice in
+      let again = s.args_override_self in
+      values_fault a (value ∷ []) ≡ [] →
+      walked s.rules [] (standing idle 1 h) (word_of choice)
+      ≡ standing (option a.id) 1 (pending (settled_rows s.rules h.pending h.rows) a.id [] h.skip) →
+      turn_fault s [] (standing idle 1 h) (word_of choice)
+      ≡ or_else (settle_fault s.rules again h) [] →
+      option_word (arg_by_id s.rules a.id) a.id value (pending rows a.id [] h.skip)
+      ≡ (pending rows a.id (value ∷ []) h.skip, idle) →
+      IsSingle s a value rows → a.id ≡ name_of choice →
+      use_row a (value ∷ []) ≡ choice_row choice →
+      Leads s 1 1 h (word_of choice ∷ value ∷ []) (rows ++ choice_row choice ∷ [])
+  valued value plain valid opens quiet takes single named is =
+      let a = rule_for choice in
+      let opened = pending rows a.id [] h.skip in
+      let full = pending rows a.id (value ∷ []) h.skip in
+      record {
+        held = full;
+        runs = λ more. one_word s [] (standing idle 1 h) (standing (option a.id) 1 opened)
+            (word_of choice) (value ∷ more)
+            (opens ∙ ap (λ (rs : List Row). standing (option a.id) 1 (pending rs a.id [] h.skip))
+            comes.holds.are)
+            (quiet ∙ ap (λ (kinds : Kinds). or_else kinds []) comes.holds.sound)
+            ∙ plain_run s value plain (option a.id) 1 opened (standing idle 1 full) more
+            (ap (λ (next : Held × Waiting). standing next.1 1 next.0) takes) refl;
+        holds = subst (λ (r : Row). Holds s (rows ++ r ∷ []) full) is
+            (single_held s a value rows h.skip single valid
+            (subst (λ (id : Text). look id rows ≡ None) (sym named) comes.new));
+      }
 
-  -- `--encoding` is the word of the option `encoding`
-  pub is_encoding : IsOption (leaf name others) (codes "--encoding") (codes "encoding")
-  unfolding clap_on_literals
-  is_encoding = record { opens = λ h. refl; takes = λ given h. refl; settles = λ h. refl }
+  -- a flag, if its word is read so
+  flagged : let a = rule_for choice in
+      let again = s.args_override_self in
+      let now = settled_rows s.rules h.pending h.rows in
+      walked s.rules [] (standing idle 1 h) (word_of choice) ≡ standing idle 1 (closed
+      (with_values a.id (reading_by a) CommandLine a.missing (without a.id now)) h.skip) →
+      turn_fault s [] (standing idle 1 h) (word_of choice)
+      ≡ or_else (or_else (settle_fault s.rules again h)
+      (or_else (repeat_fault again a.id now) [])) [] →
+      a.id ≡ name_of choice → use_row a a.missing ≡ choice_row choice →
+      Leads s 1 1 h (word_of choice ∷ []) (rows ++ choice_row choice ∷ [])
+  flagged opens quiet named is =
+      let a = rule_for choice in
+      let again = s.args_override_self in
+      let end = rows ++ choice_row choice ∷ [] in
+      let new : look a.id rows ≡ None =
+      subst (λ (id : Text). look id rows ≡ None) (sym named) comes.new in
+      let grows = ap (λ (rs : List Row).
+      with_values a.id (reading_by a) CommandLine a.missing (without a.id rs)) comes.holds.are
+      ∙ first_use a a.missing rows new ∙ ap (λ (r : Row). rows ++ r ∷ []) is in
+      record {
+        held = closed end h.skip;
+        runs = λ more. one_word s [] (standing idle 1 h) (standing idle 1 (closed end h.skip))
+            (word_of choice) more
+            (opens ∙ ap (λ (rs : List Row). standing idle 1 (closed rs h.skip)) grows)
+            (quiet ∙ ap₂ (λ (x y : Kinds). or_else (or_else x (or_else y [])) [])
+            comes.holds.sound
+            (ap (repeat_fault again a.id) comes.holds.are ∙ unrepeated again a.id rows new));
+        holds = record { are = refl; sound = refl; apart = refl };
+      }
 
-  -- `--threads` is the word of the option `threads`
-  pub is_threads : IsOption (leaf name others) (codes "--threads") (codes "threads")
-  unfolding clap_on_literals
-  is_threads = record { opens = λ h. refl; takes = λ given h. refl; settles = λ h. refl }
-
--- what is held after an option, if it is given
-abbrev pub after_option : List Rule → Text → Option Text → Held → Held
-after_option rules id None h = h
-after_option rules id (Some given) h = with_option rules id given h
-
-module _ (s : Shape) (word id : Text) (is : IsOption s word id) where
-  -- after an option with a plain value, if it is given, the value is held, and the walk goes on
-  pub option_read : (given : Option Text) → IsPlainIfGiven given → (h : Held) (words : List Text) →
-      fold (walked s.rules []) (opened h) (with_value word given ++ words)
-      ≡ fold (walked s.rules []) (opened (after_option s.rules id given h)) words
-  option_read None plain h words = refl
-  option_read (Some given) plain h words =
-      ap (λ v. fold (walked s.rules []) (walked s.rules [] v given) words) (is.opens h)
-      ∙ ap (λ v. fold (walked s.rules []) v words)
-      (option_walked s.rules id given (waiting s.rules id h)
-      (record { goes = refl; waits = refl; leads = refl }) plain
-      ∙ is.takes given h)
-
-  -- an option with a plain value has no fault if the argument that is pending before it has none
-  pub option_sound : (given : Option Text) → IsPlainIfGiven given → (h : Held) (words : List Text) →
-      settle_fault s.rules s.args_override_self h ≡ [] →
-      walk_fault s [] (opened h) (with_value word given ++ words)
-      ≡ walk_fault s [] (opened (after_option s.rules id given h)) words
-  unfolding walk_fault
-  option_sound None plain h words sound = refl
-  option_sound (Some given) plain h words sound =
-      let w = waiting s.rules id h in
-      let waits : IsWaiting id w = record { goes = refl; waits = refl; leads = refl } in
-      let first = is.settles h ∙ ap (λ kinds. or_else kinds []) sound in
-      let second = option_faultless s id given w waits plain in
-      let next = option_walked s.rules id given w waits plain ∙ is.takes given h in
-      ap (λ kinds. or_else kinds (walk_fault s [] (walked s.rules [] (opened h) word)
-      (given ∷ words))) first
-      ∙ ap (λ v. walk_fault s [] v (given ∷ words)) (is.opens h)
-      ∙ ap (λ kinds. or_else kinds (walk_fault s [] (walked s.rules [] w given) words)) second
-      ∙ ap (λ v. walk_fault s [] v words) next
-
--- What is held after the options, in this order.
-
-module _ (rules : List Rule) where
-  -- what is held after `--trimlog`, if it is given
-  abbrev pub after_log : Option Text → Held
-  after_log a = after_option rules (codes "trimlog") a nothing_held
-
-  -- what is held after `--report` too
-  abbrev pub after_report : Option Text → Option Text → Held
-  after_report a b = after_option rules (codes "report") b (after_log a)
-
-  -- what is held after `--encoding` too
-  abbrev pub after_encoding : Option Text → Option Text → Option Text → Held
-  after_encoding a b c = after_option rules (codes "encoding") c (after_report a b)
-
-  -- what is held after all options, of which `--threads` is the last
-  abbrev pub after_options : Options → Held
-  after_options o = after_option rules (codes "threads") (option_map decimal o.threads)
-      (after_encoding o.log o.report o.encoding)
+-- the digits of a number of 64 bits have no fault
+number_sound : (n : ℕ) → n ≤ most →
+    values_kinds false (parser.Unsigned 0 most) (decimal n ∷ []) ≡ []
+number_sound n fits =
+    ap (λ b. or_else (if b then [] else refused_kind (parser.Unsigned 0 most) ∷ []) [])
+    (decimal_fits n fits)
 
 module _ (name : Text) (others : List Rule) where
-  -- the rules of a command with these options
-  abbrev pub rules : List Rule
-  rules = options ++ others
+  abbrev s : Shape
+  s = leaf name others
 
-  -- after `--trimlog`, given or not, the pending argument has no fault
-  pub log_sound : (a : Option Text) → settle_fault rules false (after_log rules a) ≡ []
-  log_sound None = refl
-  log_sound (Some x) = refl
+  -- an option leads the walk on
+  choice_leads : (choice : Choice) (h : Held) (rows : List Row) → Comes s choice h rows →
+      Leads s 1 1 h (option_words choice) (rows ++ choice_row choice ∷ [])
+  unfolding clap_on_literals
+  choice_leads (threads n) h rows c = valued c (decimal n) (decimal_plain n c.usual)
+      (number_sound n c.usual) refl refl refl (refl, refl, refl, refl) refl refl
+  choice_leads (block n) h rows c = valued c (decimal n) (decimal_plain n c.usual)
+      (number_sound n c.usual) refl refl refl (refl, refl, refl, refl) refl refl
+  choice_leads (depth n) h rows c = valued c (decimal n) (decimal_plain n c.usual)
+      (number_sound n c.usual) refl refl refl (refl, refl, refl, refl) refl refl
+  choice_leads (chunk n) h rows c = valued c (decimal n) (decimal_plain n c.usual)
+      (number_sound n c.usual) refl refl refl (refl, refl, refl, refl) refl refl
+  choice_leads (encoding name) h rows c =
+      valued c name c.usual refl refl refl refl (refl, refl, refl, refl) refl refl
+  choice_leads (trimlog file) h rows c =
+      valued c file c.usual refl refl refl refl (refl, refl, refl, refl) refl refl
+  choice_leads no_name_check h rows c = flagged c refl refl refl refl
+  choice_leads sync h rows c = flagged c refl refl refl refl
+  choice_leads (report file) h rows c =
+      valued c file c.usual refl refl refl refl (refl, refl, refl, refl) refl refl
+  choice_leads explain h rows c = flagged c refl refl refl refl
 
-  -- after `--report` too, given or not, the pending argument has no fault
-  pub report_sound : (a b : Option Text) → settle_fault rules false (after_report rules a b) ≡ []
-  report_sound None None = refl
-  report_sound None (Some y) = refl
-  report_sound (Some x) None = refl
-  report_sound (Some x) (Some y) = refl
+-- these options are new
+abbrev pub AreNew : List Row → List Choice → Type 0
+AreNew rows choices = AllByRecursion (λ choice. look (name_of choice) rows ≡ None) choices
 
-  -- after `--encoding` too, given or not, the pending argument has no fault
-  pub encoding_sound : (a b c : Option Text) → settle_fault rules false (after_encoding rules a b c)
-      ≡ []
-  encoding_sound None None None = refl
-  encoding_sound None None (Some z) = refl
-  encoding_sound None (Some y) None = refl
-  encoding_sound None (Some y) (Some z) = refl
-  encoding_sound (Some x) None None = refl
-  encoding_sound (Some x) None (Some z) = refl
-  encoding_sound (Some x) (Some y) None = refl
-  encoding_sound (Some x) (Some y) (Some z) = refl
+still_new : (row : Row) (rows : List Row) (choices : List Choice) → AreNew rows choices →
+    AllByRecursion (λ name. bytes_eq row.id name ≡ false) (map name_of choices) →
+    AreNew (rows ++ row ∷ []) choices
+still_new row rows [] new differ = tt
+still_new row rows (choice ∷ choices) new differ = (
+  look_last (name_of choice) rows (row ∷ []) new.0
+      ∙ ap (λ b. if b then Some row else None) differ.0,
+  still_new row rows choices new.1 differ.1,
+)
 
-  -- before `--threads` no number of threads is held
-  pub unthreaded : (a b c : Option Text) → has_row (codes "threads")
-      (settled_rows rules (after_encoding rules a b c).pending (after_encoding rules a b c).rows)
-      ≡ false
-  unthreaded None None None = refl
-  unthreaded None None (Some z) = refl
-  unthreaded None (Some y) None = refl
-  unthreaded None (Some y) (Some z) = refl
-  unthreaded (Some x) None None = refl
-  unthreaded (Some x) None (Some z) = refl
-  unthreaded (Some x) (Some y) None = refl
-  unthreaded (Some x) (Some y) (Some z) = refl
-
-  -- a number of 64 bits, in decimal digits, has no fault as the first value of `--threads`
-  pub number_sound : (n : ℕ) → n ≤ most → (rows : List Row) (skip : ℕ) →
-      has_row (codes "threads") rows ≡ false →
-      settle_fault rules false (record {
-        rows = rows;
-        pending =
-            Some (codes "threads", decimal n ∷ []);
-        skip = skip;
-      }) ≡ []
-  number_sound n fits rows skip none =
-      ap₂ (λ x y. or_else (if x && true then ArgumentConflict ∷ [] else [])
-      (or_else (if y then [] else refused_kind (parser.Unsigned 0 most) ∷ []) []))
-      none (decimal_fits n fits)
-
-  -- after all options, each given or not, the pending argument has no fault
-  pub options_sound : (o : Options) → FitsIfGiven o.threads →
-      settle_fault rules false (after_options rules o) ≡ []
-  options_sound o fits = go o.threads fits
-    where
-      go : (d : Option ℕ) → FitsIfGiven d → settle_fault rules false
-          (after_option rules (codes "threads") (option_map decimal d)
-          (after_encoding rules o.log o.report o.encoding)) ≡ []
-      go None fits = encoding_sound o.log o.report o.encoding
-      go (Some n) fits =
-          let h = after_encoding rules o.log o.report o.encoding in
-          number_sound n fits (settled_rows rules h.pending h.rows) h.skip
-          (unthreaded o.log o.report o.encoding)
-
--- All options.
-
--- a number in decimal digits, if it is given, is a plain value
-pub plain_number : (d : Option ℕ) → FitsIfGiven d → IsPlainIfGiven (option_map decimal d)
-plain_number None fits = tt
-plain_number (Some n) fits = decimal_plain n fits
-
--- the words of the options come one option after the other, and then the words after them
-pub option_words_then : (o : Options) (words : List Text) → option_words o ++ words
-    ≡ with_value (codes "--trimlog") o.log ++ (with_value (codes "--report") o.report
-    ++ (with_value (codes "--encoding") o.encoding
-    ++ (with_value (codes "--threads") (option_map decimal o.threads) ++ words)))
-option_words_then o words =
-    let a = with_value (codes "--trimlog") o.log in
-    let b = with_value (codes "--report") o.report in
-    let c = with_value (codes "--encoding") o.encoding in
-    let d = with_value (codes "--threads") (option_map decimal o.threads) in
-    append_assoc a (b ++ (c ++ d)) words
-    ∙ ap (λ (ws : List Text). a ++ ws) (append_assoc b (c ++ d) words)
-    ∙ ap (λ (ws : List Text). a ++ (b ++ ws)) (append_assoc c d words)
-
-module _ (name : Text) (others : List Rule) (o : Options) (plain : ArePlain o) where
-  -- the command with these options and then other arguments
-  abbrev pub options_leaf : Shape
-  options_leaf = leaf name others
-
-  -- the walk over the options holds their values, and goes on after them
-  pub options_read : (words : List Text) →
-      fold (walked options_leaf.rules []) (opened nothing_held) (option_words o ++ words)
-      ≡ fold (walked options_leaf.rules []) (opened (after_options options_leaf.rules o)) words
-  options_read words =
-      let s = options_leaf in
-      let d = option_map decimal o.threads in
-      let after_d = words in
-      let after_c = with_value (codes "--threads") d ++ after_d in
-      let after_b = with_value (codes "--encoding") o.encoding ++ after_c in
-      let after_a = with_value (codes "--report") o.report ++ after_b in
-      ap (fold (walked s.rules []) (opened nothing_held)) (option_words_then o words)
-      ∙ option_read s (codes "--trimlog") (codes "trimlog") (is_log name others) o.log plain.log
-      nothing_held after_a
-      ∙ option_read s (codes "--report") (codes "report") (is_report name others) o.report
-      plain.report (after_log s.rules o.log) after_b
-      ∙ option_read s (codes "--encoding") (codes "encoding") (is_encoding name others) o.encoding
-      plain.encoding (after_report s.rules o.log o.report) after_c
-      ∙ option_read s (codes "--threads") (codes "threads") (is_threads name others) d
-      (plain_number o.threads plain.threads)
-      (after_encoding s.rules o.log o.report o.encoding) after_d
-
-  -- options with plain values have no fault
-  pub options_faultless : (words : List Text) →
-      walk_fault options_leaf [] (opened nothing_held) (option_words o ++ words)
-      ≡ walk_fault options_leaf [] (opened (after_options options_leaf.rules o)) words
-  options_faultless words =
-      let s = options_leaf in
-      let d = option_map decimal o.threads in
-      let after_d = words in
-      let after_c = with_value (codes "--threads") d ++ after_d in
-      let after_b = with_value (codes "--encoding") o.encoding ++ after_c in
-      let after_a = with_value (codes "--report") o.report ++ after_b in
-      ap (walk_fault s [] (opened nothing_held)) (option_words_then o words)
-      ∙ option_sound s (codes "--trimlog") (codes "trimlog") (is_log name others) o.log plain.log
-      nothing_held after_a refl
-      ∙ option_sound s (codes "--report") (codes "report") (is_report name others) o.report
-      plain.report (after_log s.rules o.log) after_b
-      (log_sound name others o.log)
-      ∙ option_sound s (codes "--encoding") (codes "encoding") (is_encoding name others) o.encoding
-      plain.encoding
-      (after_report s.rules o.log o.report) after_c (report_sound name others o.log o.report)
-      ∙ option_sound s (codes "--threads") (codes "threads") (is_threads name others) d
-      (plain_number o.threads plain.threads)
-      (after_encoding s.rules o.log o.report o.encoding) after_d
-      (encoding_sound name others o.log o.report o.encoding)
+-- options lead the walk on
+pub choices_lead : (name : Text) (others : List Rule) (choices : List Choice) (h : Held)
+    (rows : List Row) → All IsUsual choices → IsDistinct bytes_eq (map name_of choices) →
+    AreNew rows choices → Holds (leaf name others) rows h →
+    Leads (leaf name others) 1 1 h (flat_map option_words choices)
+    (rows ++ map choice_row choices)
+unfolding IsDistinct
+choices_lead name others [] h rows usual once new holds = record {
+  held = h;
+  runs = λ more. refl;
+  holds = subst (λ (rs : List Row). Holds (leaf name others) rs h) (sym (append-nil rows)) holds;
+}
+choices_lead name others (choice ∷ choices) h rows usual once new holds =
+    let s = leaf name others in
+    let row = choice_row choice in
+    then_lead s 1 1 1 h (option_words choice) (flat_map option_words choices)
+    (rows ++ row ∷ []) (rows ++ map choice_row (choice ∷ choices))
+    (choice_leads name others choice h rows (record {
+      usual = All-head IsUsual choice choices usual;
+      holds = holds;
+      new = new.0;
+    }))
+    (λ g held. subst
+    (λ (rs : List Row). Leads s 1 1 g (flat_map option_words choices) rs)
+    (append_assoc rows (row ∷ []) (map choice_row choices))
+    (choices_lead name others choices g (rows ++ row ∷ [])
+    (All-tail IsUsual choice choices usual) once.1
+    (still_new row rows choices new.1 once.0) held))

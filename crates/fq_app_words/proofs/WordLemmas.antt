@@ -1,5 +1,5 @@
 -- What `clap` finds in arguments, and the commands by which it parses them.
-use Rattle.std.proofs.Common.{◌≡◌, ◌≢◌, ◌∙◌, ◌&&◌, ◌||◌, ◌<◌, ◌^◌, ℕ, Bool, true, false, true≢false, refl, sym, ap, ap₂, subst, arith, List, [], ◌∷◌, length, Option, Some, None, Result, Ok, Err, codes, nat_lt, nat_le, lt-ltb, ltb-true, if◌then◌else◌}
+use Rattle.std.proofs.Common.{◌≡◌, ◌≢◌, ◌∙◌, ◌&&◌, ◌||◌, ◌<◌, ◌^◌, ℕ, Bool, true, false, true≢false, refl, sym, ap, ap₂, subst, List, [], ◌∷◌, length, Option, Some, None, Result, Ok, Err, codes, nat_lt, ltb-true, if◌then◌else◌}
 use Rattle.std.specs.Prelude.{unwrap_or, option_map, Box}
 use Rattle.std.specs.List.{list_all}
 use Rattle.std.specs.Result.{result_unwrap_or}
@@ -20,6 +20,7 @@ use Rattle.clap.proofs.OnLiterals.{clap_on_literals}
 use Rattle.clap.specs.Built.{AddsArg, AddsInTurn, AddsSubcommand}
 use Rattle.clap.specs.declared.builder.arg.Arg.{Arg}
 use Rattle.clap.specs.declared.builder.command.Command.{Command}
+use Rattle.fq_app_words.proofs.DecimalLemmas.{is_below, digits_fit}
 use Rattle.fq_app_words.specs.Words.{AreArgs, IsArg, IsCommand, asked_in, asked_of, interleaved_app, most, number_of, pairs_app, pairs_asked, program_app, with_rules, words_fault}
 
 -- a command with one more argument
@@ -121,22 +122,11 @@ both : (a b : Bool) → (a && b) ≡ true → (a ≡ true) × (b ≡ true)
 both true b e = (refl, e)
 both false b e = absurd (true≢false (sym e))
 
-digits_pass : (ds : List ℕ) → AllDigits 10 ds → list_all (λ d. nat_lt (digit_value d) 10) ds ≡ true
-digits_pass [] h = refl
-digits_pass (d ∷ ds) h = rw (lt-ltb (digit_value d) 10 h.0) (digits_pass ds h.1)
-
 digits_from : (ds : List ℕ) → list_all (λ d. nat_lt (digit_value d) 10) ds ≡ true → AllDigits 10 ds
 digits_from [] e = tt
 digits_from (d ∷ ds) e =
     let parts = both _ _ e in
     (ltb-true _ _ parts.0, digits_from ds parts.1)
-
-is_below : ℕ → Bool
-is_below n = nat_lt n (2 ^ 64) && (nat_le 0 n && nat_le n most)
-
-below : (n : ℕ) → n < 2 ^ 64 → is_below n ≡ true
-unfolding is_below
-below n h = grind (arith, lt-ltb n (2 ^ 64) h)
 
 below_from : (n : ℕ) → is_below n ≡ true → n < 2 ^ 64
 unfolding is_below
@@ -150,10 +140,8 @@ parsed : {E : Type 0} (text : Text) (r : Result ℕ E) → ParsesUnsigned 64 10 
 unfolding is_below
 parsed text (Ok n) h =
     let ds = without_leading_plus text in
-    let digits : is_numeral ds ≡ true = rw (lt-ltb 0 (length ds) h.0.0.0)
-    (digits_pass ds h.0.0.1) in
-    let small : is_below (digits_value 10 ds) ≡ true = below (digits_value 10 ds) h.0.1 in
-    let test : is_unsigned_in 0 most text ≡ true = ap₂ (λ a b. a && b) digits small in
+    let test : is_unsigned_in 0 most text ≡ true =
+    digits_fit ds h.0.0.0 h.0.0.1 h.0.1 in
     h.1 ∙ sym (ap (λ (b : Bool). if b then digits_value 10 ds else 0) test)
 parsed text (Err e) h = go (is_unsigned_in 0 most text) refl
   where

@@ -1,8 +1,8 @@
 -- What usual command lines ask for, in words of their own.
-use Rattle.std.specs.Prelude.{◌≡◌, ◌≢◌, ℕ, ◌≤◌, true, false, decimal, unwrap_or}
-use Rattle.std.specs.Prelude.{Option, Some, None, List, [], ◌∷◌, ◌++◌, codes, length}
-use Rattle.std.specs.List.{All}
-use Rattle.std.specs.Option.{option_map}
+use Rattle.std.specs.Prelude.{◌≡◌, ◌≢◌, ℕ, ◌≤◌, true, false, decimal}
+use Rattle.std.specs.Prelude.{Some, None, List, [], ◌∷◌, ◌++◌, codes, length, map, flat_map}
+use Rattle.std.specs.List.{All, IsDistinct}
+use Rattle.std.specs.Str.{bytes_eq}
 use Rattle.clap.specs.Words.{Text}
 use Rattle.fq_text.specs.Grammar.{begins_with}
 use Rattle.fq_app_words.specs.Requests.{Asking, InputNames, two_files, interleaved_file}
@@ -15,39 +15,78 @@ hyphen = 45
 abbrev pub IsPlain : Text → Type 0
 IsPlain word = begins_with hyphen word ≡ false
 
--- Options before the files: each of these once, or not at all.
-pub record Options : Type 0 where
-  pub log : Option Text
-  pub report : Option Text
-  pub encoding : Option Text
-  pub threads : Option ℕ
+-- An option, with its value if it takes one.
+pub data Choice : Type 0 where
+  threads : ℕ → Choice
+  block : ℕ → Choice
+  depth : ℕ → Choice
+  chunk : ℕ → Choice
+  encoding : Text → Choice
+  trimlog : Text → Choice
+  no_name_check : Choice
+  sync : Choice
+  report : Text → Choice
+  explain : Choice
 
--- an option and its value, if it is given
-abbrev pub with_value : Text → Option Text → List Text
-with_value name None = []
-with_value name (Some value) = name ∷ value ∷ []
+abbrev pub name_of : Choice → Text
+name_of (threads n) = codes "threads"
+name_of (block n) = codes "block"
+name_of (depth n) = codes "depth"
+name_of (chunk n) = codes "chunk"
+name_of (encoding name) = codes "encoding"
+name_of (trimlog file) = codes "trimlog"
+name_of no_name_check = codes "no-name-check"
+name_of sync = codes "sync"
+name_of (report file) = codes "report"
+name_of explain = codes "explain"
 
-abbrev pub option_words : Options → List Text
-option_words o = with_value (codes "--trimlog") o.log
-    ++ (with_value (codes "--report") o.report
-    ++ (with_value (codes "--encoding") o.encoding
-    ++ with_value (codes "--threads") (option_map decimal o.threads)))
+-- the value, as a word of its own
+abbrev pub value_of : Choice → List Text
+value_of (threads n) = decimal n ∷ []
+value_of (block n) = decimal n ∷ []
+value_of (depth n) = decimal n ∷ []
+value_of (chunk n) = decimal n ∷ []
+value_of (encoding name) = name ∷ []
+value_of (trimlog file) = file ∷ []
+value_of (report file) = file ∷ []
+value_of _ = []
 
--- the value is plain, if it is given
-abbrev pub IsPlainIfGiven : Option Text → Type 0
-IsPlainIfGiven None = Unit {0}
-IsPlainIfGiven (Some value) = IsPlain value
+-- the words of an option: its name after two hyphens, and its value
+abbrev pub option_words : Choice → List Text
+option_words choice = (hyphen ∷ hyphen ∷ name_of choice) ∷ value_of choice
 
--- the number has 64 bits, if it is given
-abbrev pub FitsIfGiven : Option ℕ → Type 0
-FitsIfGiven None = Unit {0}
-FitsIfGiven (Some n) = n ≤ most
+-- a number has 64 bits, and a text is plain
+abbrev pub IsUsual : Choice → Type 0
+IsUsual (threads n) = n ≤ most
+IsUsual (block n) = n ≤ most
+IsUsual (depth n) = n ≤ most
+IsUsual (chunk n) = n ≤ most
+IsUsual (encoding name) = IsPlain name
+IsUsual (trimlog file) = IsPlain file
+IsUsual (report file) = IsPlain file
+IsUsual _ = Unit {0}
 
-pub record ArePlain (o : Options) : Type 0 where
-  pub log : IsPlainIfGiven o.log
-  pub report : IsPlainIfGiven o.report
-  pub encoding : IsPlainIfGiven o.encoding
-  pub threads : FitsIfGiven o.threads
+-- Options with usual values, in any order, none of which is given twice.
+pub record AreUsual (choices : List Choice) : Type 0 where
+  pub usual : All IsUsual choices
+  pub once : IsDistinct bytes_eq (map name_of choices)
+
+-- what is asked for with this option too
+abbrev pub with_choice : Choice → Asking → Asking
+with_choice (threads n) a = record a { threads = n }
+with_choice (block n) a = record a { block = n }
+with_choice (depth n) a = record a { depth = n }
+with_choice (chunk n) a = record a { chunk = n }
+with_choice (encoding name) a = record a { encoding = name }
+with_choice (trimlog file) a = record a { log = Some file }
+with_choice no_name_check a = record a { check_names = false }
+with_choice sync a = record a { sync = true }
+with_choice (report file) a = record a { report = Some file }
+with_choice explain a = record a { explain = true }
+
+abbrev pub with_choices : List Choice → Asking → Asking
+with_choices [] a = a
+with_choices (choice ∷ choices) a = with_choice choice (with_choices choices a)
 
 -- The names of the output files, in the order of the command line.
 pub record OutputNames : Type 0 where
@@ -60,11 +99,11 @@ abbrev pub output_words : OutputNames → List Text
 output_words names = names.forward_paired ∷ names.forward_unpaired
     ∷ names.reverse_paired ∷ names.reverse_unpaired ∷ []
 
--- what is asked for: what is given, and the defaults of the rest
-abbrev pub asking_with : Options → InputNames → OutputNames → List Text → Asking
-asking_with o inputs names steps = record {
-  encoding = unwrap_or o.encoding (codes "sanger");
-  threads = unwrap_or o.threads 4;
+-- what is asked for without options
+abbrev pub asking_with : InputNames → OutputNames → List Text → Asking
+asking_with inputs names steps = record {
+  encoding = codes "sanger";
+  threads = 4;
   block = 1024;
   depth = 4;
   chunk = 65536;
@@ -76,8 +115,8 @@ asking_with o inputs names steps = record {
   forward_unpaired = names.forward_unpaired;
   reverse_paired = names.reverse_paired;
   reverse_unpaired = names.reverse_unpaired;
-  log = o.log;
-  report = o.report;
+  log = None;
+  report = None;
   steps = steps;
 }
 
@@ -86,21 +125,22 @@ pub record AreSteps (steps : List Text) : Type 0 where
   pub some : steps ≢ []
   pub fit : length steps ≤ most
 
--- `PE [options] F R FP FU RP RU STEPS..`: if the names, the steps and the values of options are
--- plain, these names, steps and values are asked for, and the defaults.
+-- After this command, usual options, these input files, four output files and some steps, all
+-- plain, ask for these inputs, and for what the options, outputs and steps say.
+abbrev pub AsksFor : Text → List Text → InputNames → Type 0
+AsksFor command files inputs = (program : Text) (choices : List Choice) (names : OutputNames)
+    (steps : List Text) → AreUsual choices → AreSteps steps →
+    All IsPlain (files ++ (output_words names ++ steps)) →
+    AskedFor (program ∷ command
+    ∷ (flat_map option_words choices ++ (files ++ (output_words names ++ steps))))
+    (Some (with_choices choices (asking_with inputs names steps)))
+
+-- `PE [options] F R FP FU RP RU STEPS..`
 abbrev pub PairsAreAskedFor : Type 0
-PairsAreAskedFor = (program forward reverse : Text) (o : Options) (names : OutputNames)
-    (steps : List Text) → ArePlain o → AreSteps steps →
-    All IsPlain (forward ∷ reverse ∷ (output_words names ++ steps)) →
-    AskedFor (program ∷ codes "PE"
-    ∷ (option_words o ++ (forward ∷ reverse ∷ (output_words names ++ steps))))
-    (Some (asking_with o (two_files forward reverse) names steps))
+PairsAreAskedFor = (forward reverse : Text) →
+    AsksFor (codes "PE") (forward ∷ reverse ∷ []) (two_files forward reverse)
 
 -- `IL [options] I FP FU RP RU STEPS..`
 abbrev pub MixedPairsAreAskedFor : Type 0
-MixedPairsAreAskedFor = (program both : Text) (o : Options) (names : OutputNames)
-    (steps : List Text) → ArePlain o → AreSteps steps →
-    All IsPlain (both ∷ (output_words names ++ steps)) →
-    AskedFor (program ∷ codes "IL"
-    ∷ (option_words o ++ (both ∷ (output_words names ++ steps))))
-    (Some (asking_with o (interleaved_file both) names steps))
+MixedPairsAreAskedFor = (both : Text) →
+    AsksFor (codes "IL") (both ∷ []) (interleaved_file both)
