@@ -11,4 +11,3 @@ pub mod TakenLemmas
 pub mod WholeLemmas
 pub mod SideLemmas
 pub mod AskLemmas
-pub mod InterleavedLemmas

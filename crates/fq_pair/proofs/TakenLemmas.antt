@@ -1,10 +1,10 @@
 -- The lines that the first record in a list of lines takes, whatever lines follow them.
-use Rattle.std.proofs.Common.{◌≡◌, ℕ, suc, ◌-◌, true, eqb, Some, None, List, [], ◌∷◌, ◌++◌, length, refl, ap, sym, ◌∙◌, append_assoc, ⊎_elim}
+use Rattle.std.proofs.Common.{◌≡◌, ℕ, suc, ◌-◌, true, eqb, Some, None, List, [], ◌∷◌, ◌++◌, length, ap, sym, ◌∙◌, append_assoc, ⊎_elim}
 use Rattle.std.specs.List.{concat}
 use Rattle.std.proofs.lemmas.Bool.{cond-true, cond-false, cases_Bool}
 use Rattle.std.proofs.lemmas.List.{append_cancel_right}
 use Rattle.fq_text.specs.declared.encoding.Encoding.{Encoding}
-use Rattle.fq_text.specs.Grammar.{Read, Front, End, Faulty, Found, front, begins_with, before_plus, from_plus, quality_lines, after_quality, title_fault, plus_fault, quality_faults, sequence_faults, unless_faulty, completed, from_quality_lines, from_plus_line}
+use Rattle.fq_text.specs.Grammar.{Read, Found, front, begins_with, before_plus, from_plus, quality_lines, after_quality, title_fault, plus_fault, quality_faults, sequence_faults, unless_faulty, completed, from_quality_lines, from_plus_line}
 use Rattle.fq_text.specs.Records.{Records, from_front}
 use Rattle.fq_text.proofs.LawfulLemmas.{passed, complete}
 use Rattle.fq_pair.proofs.FrontLemmas.{no_quality}
@@ -183,21 +183,6 @@ front_fewer e r ls rest more is =
     let same : ls ≡ t.taken ++ rest = append_cancel_right ls (t.taken ++ rest) more (t.split
     ∙ sym (append_assoc t.taken rest more)) in
     ap (front e) same ∙ t.always rest
-
--- How many records some lines hold.
-
--- none, if none comes first
-pub no_records : (e : Encoding) (ls : List (List ℕ)) →
-    ((r : Read) (rest : List (List ℕ)) → front e ls ≡ Found r rest → ⊥) →
-    length (records_of e ls).reads ≡ 0
-no_records e ls none = by_front (front e ls) refl
-  where
-    by_front : (x : Front) → front e ls ≡ x → length (records_of e ls).reads ≡ 0
-    by_front End is = ap (λ (t : Records). length t.reads) (records_of-front e ls
-        ∙ ap (from_front (records_of e)) is)
-    by_front (Faulty y) is = ap (λ (t : Records). length t.reads) (records_of-front e ls
-        ∙ ap (from_front (records_of e)) is)
-    by_front (Found r rest) is = absurd (none r rest is)
 
 -- the first one, and those after it
 pub one_record : (e : Encoding) (r : Read) (ls rest : List (List ℕ)) → front e ls ≡ Found r rest →

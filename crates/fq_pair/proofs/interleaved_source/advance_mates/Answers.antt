@@ -1,13 +1,385 @@
 -- The forward mate is kept, and the current record is its reverse mate.
-use Rattle.std.proofs.Common.{◌≡◌, true, false, Some, Ok, refl, is_some, arith, rules}
+use Rattle.std.proofs.Common.{◌≡◌, true, false, Some, Ok, refl, is_some, arith, rules, ℕ, ◌-◌, List, length, ap, ◌∙◌, ◌+◌, ◌++◌, suc, Bool, IsTrue, sym, ◌⊎◌, [], ⊎_elim, ◌*◌, Err, ◌≤◌, add-one, subst}
 use Rattle.std.proofs.lemmas.Grind.{common_steps}
 use Rattle.std.proofs.lemmas.Result.{err_from_is_err_and}
+use Rattle.std.proofs.lemmas.List.{length-append}
+use Rattle.std.proofs.lemmas.Bool.{cond-true, cases_Bool, both_ways, cond-false}
+use Rattle.fq_text.specs.declared.encoding.Encoding.{Encoding}
+use Rattle.fq_text.specs.Grammar.{Read, Front, End, Faulty, Found, front}
+use Rattle.fq_text.specs.Records.{Records, from_front, records}
+use Rattle.fq_text.specs.Devices.{FeedState}
+use Rattle.fq_text.specs.Sources.{Sourced, KeepsCount, rest_in, IsTail, GivesRecord, held, LacksRecord, FaultIs, if_read, if_endless as endless_text, StopsText, EndsText}
+use Rattle.fq_pair.specs.Walks.{SideState, side_state, Draws, Uses}
+use Rattle.fq_text.specs.Lines.{lines, whole_part}
+use Rattle.fq_pair.specs.Interleaved.{meeting_after, interleaved_meeting, interleaved_pairs, side_after}
+use Rattle.fq_pair.specs.InterleavedSources.{front_of, asked, GivesPair, IsNext, StopsPairs, stopped, WasReading}
+use Rattle.fq_pair.specs.Mates.{mates_in}
+use Rattle.fq_pair.specs.Pairing.{belong, Stopped, Met, Pairs}
+use Rattle.fq_text.specs.declared.fault.TextFault.{TextFault}
+use Rattle.fq_pair.specs.PairSources.{is_outside, is_cut, if_cut, if_endless, is_cut_short}
+use Rattle.fq_pair.specs.declared.side.Side.{Side}
+use Rattle.fq_pair.specs.declared.fault.InputFault.{InputFault}
 use Rattle.fq_text.proofs.ResultLemmas.{err_mapped}
-use Rattle.fq_pair.specs.declared.fault.InputFault.TheVariants.{Text}
+use Rattle.fq_pair.specs.declared.fault.InputFault.TheVariants.{Text, NamesDiffer, MateMissing}
 use Rattle.fq_pair.specs.declared.side.Side.TheVariants.{Reverse}
 use Rattle.fq_pair.proofs.SourceLaws.{of_current, of_pair, of_titles}
-use Rattle.fq_pair.proofs.InterleavedLemmas.{keeps_then, two_given, second_stops, mate_missing, names_differ}
+use Rattle.fq_pair.proofs.PairLaws.{records_of, records_of-front}
+use Rattle.fq_pair.proofs.SideLemmas.{draws_then, uses_then, more_lines, lines_before, lines_left, lines_behind}
+use Rattle.fq_pair.proofs.InterleavedLaws.{interleaved_left_met, interleaved_pairs_of-stopped, interleaved_pairs_of-ended, interleaved_left_stopped}
+use Rattle.fq_pair.proofs.FrontLemmas.{front_more}
+use Rattle.fq_pair.proofs.TakenLemmas.{front_fewer, one_record}
+use Rattle.fq_text.specs.declared.fault.TextFault.TheVariants as text
 use Rattle.fq_pair.proofs.interleaved_source.advance_mates.Goals as goal
+
+-- How many records some lines hold.
+
+-- none, if none comes first
+no_records : (e : Encoding) (ls : List (List ℕ)) →
+    ((r : Read) (rest : List (List ℕ)) → front e ls ≡ Found r rest → ⊥) →
+    length (records_of e ls).reads ≡ 0
+no_records e ls none = by_front (front e ls) refl
+  where
+    by_front : (x : Front) → front e ls ≡ x → length (records_of e ls).reads ≡ 0
+    by_front End is = ap (λ (t : Records). length t.reads) (records_of-front e ls
+        ∙ ap (from_front (records_of e)) is)
+    by_front (Faulty y) is = ap (λ (t : Records). length t.reads) (records_of-front e ls
+        ∙ ap (from_front (records_of e)) is)
+    by_front (Found r rest) is = absurd (none r rest is)
+
+-- Two records of one source, one after the other.
+
+-- Three states of a source: what its feed gave up to the second and up to the third.
+module _ {F : Type 0} (state : F → FeedState) (a b c : Sourced F) (p : KeepsCount state a b)
+    (q : KeepsCount state b c) where
+  -- the source as a side, whose failures don't count here
+  abbrev side : Sourced F → SideState
+  side s = record (side_state state s) { failures = 0 }
+
+  abbrev drawn_in : (old new : Sourced F) → KeepsCount state old new → Draws (side old) (side new) 0
+  drawn_in old new k = record {
+    told = k.told;
+    max_reads = k.max_reads;
+    grows = k.grows;
+    ended =
+        k.ended;
+    bytes = k.fed;
+    size = k.length;
+    failures = refl;
+  }
+
+  abbrev used_in : (old new : Sourced F) → IsTail (rest_in state old) (rest_in state new)
+      new.ended → Uses (side old) (side new)
+  used_in old new t = record { used = t.before; split = t.split; at_line = t.at_line }
+
+  -- what every call keeps is also kept by two calls, one after the other
+  keeps_then : KeepsCount state a c
+  keeps_then =
+      let d = draws_then (side a) (side b) (side c) 0 (drawn_in a b p) (drawn_in b c q) in
+      record {
+        encoding = q.encoding ∙ p.encoding;
+        chunk = q.chunk ∙ p.chunk;
+        max_reads = d.max_reads;
+        told = d.told;
+        grows = d.grows;
+        ended = d.ended;
+        fed = d.bytes;
+        length = d.size;
+      }
+
+  -- the rest of a rest of a text
+  tail_then : IsTail (rest_in state a) (rest_in state b) b.ended →
+      IsTail (rest_in state b) (rest_in state c) c.ended →
+      IsTail (rest_in state a) (rest_in state c) c.ended
+  tail_then t u =
+      let both = uses_then (side a) (side b) (side c) q.ended (used_in a b t) (used_in b c u) in
+      let some = t.some in
+      record {
+        before = t.before ++ u.before;
+        some =
+            omega (arith, length-append t.before u.before);
+        split = both.split;
+        at_line =
+            both.at_line;
+      }
+
+  -- after the first record the second decides what comes first
+  front_behind : (kept : Read) (check : Bool) (given : ℕ) (before : Bool) (f : Read) →
+      GivesRecord state a b f → IsTrue (state a.feed).tells →
+      front_of state (asked a kept check given before)
+      ≡ meeting_after check (suc given) f (front b.encoding (lines (rest_in state b)))
+  front_behind kept check given before f first told =
+      ap (interleaved_meeting check a.encoding (suc given)) (first.record_is told)
+      ∙ ap (λ (e : Encoding). meeting_after check (suc given) f
+      (front e (lines (rest_in state b)))) (sym p.encoding)
+
+  -- two records that were given make a pair if their names allow it
+  two_given : (kept : Read) (check : Bool) (given : ℕ) (before now : Bool) (f r : Read) →
+      GivesRecord state a b f → GivesRecord state b c r → belong check (mates_in f r) ≡ true →
+      GivesPair state (asked a kept check given before) (asked c f check (given + 1) now)
+      (mates_in f r)
+  two_given kept check given before now f r first second together =
+      let one = first.given in let two = second.given in
+      let ls = lines (rest_in state c) in
+      let n = suc given in
+      let pair_is : IsTrue (state a.feed).tells →
+      front_of state (asked a kept check given before) ≡ Met (mates_in f r) ls ls = λ told.
+      front_behind kept check given before f first told
+      ∙ ap (meeting_after check n f) (second.record_is (p.told ∙ told))
+      ∙ cond-true (belong check (mates_in f r)) (Met (mates_in f r) ls ls) (Stopped (NamesDiffer n))
+      together in
+      record {
+        pair_is = pair_is;
+        left = λ told. interleaved_left_met state (asked a kept check given before)
+            (asked c f check (given + 1) now) (mates_in f r) (q.encoding
+            ∙ p.encoding) refl refl (pair_is told);
+        records = record {
+          forward = first.lawful;
+          reverse = second.lawful;
+          forward_encoding = first.encoding;
+          reverse_encoding = second.encoding ∙ p.encoding;
+          tail = λ told. tail_then (first.tail told) (second.tail (p.told ∙ told));
+          given = omega arith;
+          last = second.last;
+          in_hand = second.in_hand;
+        };
+        names = together;
+        given = refl;
+        last = refl;
+      }
+
+  module _ (told : IsTrue (state a.feed).tells)
+      (t : IsTail (rest_in state a) (rest_in state b) b.ended) where
+    abbrev came : List ℕ
+    came = held state a c
+
+    abbrev more : List (List ℕ)
+    more = more_lines (side a) (side b) (side c) 0 (drawn_in a b p) (drawn_in b c q) told
+        (used_in a b t)
+
+    before : lines (rest_in state a) ≡ lines (whole_part came) ++ more
+    before = lines_before (side a) (side b) (side c) 0 (drawn_in a b p) (drawn_in b c q) told
+        (used_in a b t)
+
+    left : (ls : List (List ℕ)) → ls ++ more ≡ lines (rest_in state b) →
+        (ls ≡ lines (whole_part (held state b c))) ⊎ (ls ≡ [])
+    left = lines_left (side a) (side b) (side c) 0 (drawn_in a b p) (drawn_in b c q) told
+        (used_in a b t)
+
+    module _ (check : Bool) (given : ℕ) (f : Read)
+        (first : front a.encoding (lines (rest_in state a)) ≡ Found f (lines (rest_in state b)))
+        (lacks : LacksRecord state b c) where
+      abbrev whole_lines : List (List ℕ)
+      whole_lines = lines (whole_part came)
+
+      abbrev HasNone : Type 0
+      HasNone = (interleaved_pairs check a.encoding given (whole_part came)).mates ≡ []
+
+      abbrev n : ℕ
+      n = suc given
+
+      -- there is no second record
+      none_behind : (x y : Read) (ls rest : List (List ℕ)) →
+          front a.encoding whole_lines ≡ Found x ls → front a.encoding ls ≡ Found y rest → ⊥
+      none_behind x y ls rest one two =
+          let longer : Found x (ls ++ more) ≡ Found f (lines (rest_in state b)) =
+          sym (front_more more a.encoding x ls whole_lines one)
+          ∙ ap (front a.encoding) (sym before) ∙ first in
+          let same : ls ++ more ≡ lines (rest_in state b) = cc in
+          ⊎_elim
+          (λ these. lacks (p.told
+          ∙ told) y rest (ap (λ (e : Encoding). front e (lines (whole_part (held state b c))))
+          p.encoding ∙ ap (front a.encoding) (sym these) ∙ two))
+          (λ none. absurd (let h : End ≡ Found y rest = ap (front a.encoding) (sym none) ∙ two in
+          cc))
+          (left ls same)
+
+      by_second : (x : Read) (ls : List (List ℕ)) → front a.encoding whole_lines ≡ Found x ls →
+          (B : Front) → front a.encoding ls ≡ B → HasNone
+      by_second x ls one End two = ap (λ (ps : Pairs). ps.mates)
+          (interleaved_pairs_of-stopped check a.encoding given whole_lines _
+          (ap (interleaved_meeting check a.encoding n) one ∙ ap (meeting_after check n x) two))
+      by_second x ls one (Faulty y) two = ap (λ (ps : Pairs). ps.mates)
+          (interleaved_pairs_of-stopped check a.encoding given whole_lines _
+          (ap (interleaved_meeting check a.encoding n) one ∙ ap (meeting_after check n x) two))
+      by_second x ls one (Found y rest) two = absurd (none_behind x y ls rest one two)
+
+      by_first : (A : Front) → front a.encoding whole_lines ≡ A → HasNone
+      by_first End one =
+          ap (λ (ps : Pairs). ps.mates) (interleaved_pairs_of-ended check a.encoding given
+          whole_lines (ap (interleaved_meeting check a.encoding n) one))
+      by_first (Faulty x) one = ap (λ (ps : Pairs). ps.mates)
+          (interleaved_pairs_of-stopped check a.encoding given whole_lines _
+          (ap (interleaved_meeting check a.encoding n) one))
+      by_first (Found x ls) one = by_second x ls one (front a.encoding ls) refl
+
+      -- if the second record was not read, the whole lines that came make no pair
+      no_pair : HasNone
+      no_pair = by_first (front a.encoding whole_lines) refl
+
+      -- if the feed had not reported its end, they make one record
+      one_came : b.ended ≡ false → length (records a.encoding (whole_part came)).reads ≡ 1
+      one_came going =
+          let behind = lines (whole_part (held state b c)) in
+          let left_is : lines (rest_in state b) ≡ behind ++ more =
+          lines_behind (side a) (side b) (side c) 0 (drawn_in a b p) (drawn_in b c q) told
+          (used_in a b t) going in
+          let found : front a.encoding whole_lines ≡ Found f behind =
+          front_fewer a.encoding f whole_lines behind more (ap (front a.encoding) (sym before)
+          ∙ first ∙ ap (Found f) left_is) in
+          one_record a.encoding f whole_lines behind found
+          ∙ ap suc (no_records a.encoding behind (λ r rest is. lacks (p.told ∙ told) r rest
+          (ap (λ (e : Encoding). front e behind) p.encoding ∙ is)))
+
+-- a fault of the text is that of the record that comes first, with its number
+stops_behind : (check : Bool) (n : ℕ) (f : Read) (x : Front) (k : ℕ) (why : TextFault) → k ≡ 2 * n →
+    is_outside why ≡ false → FaultIs x k why →
+    meeting_after check n f x ≡ Stopped (Text Reverse why)
+stops_behind check n f x k (text.NoTitle j) is inside p = ap (meeting_after check n f) p.0
+    ∙ ap (λ i. Stopped (Text Reverse (text.NoTitle i))) (sym (p.1 ∙ is))
+stops_behind check n f x k (text.BadSequence j) is inside p = ap (meeting_after check n f) p.0
+    ∙ ap (λ i. Stopped (Text Reverse (text.BadSequence i))) (sym (p.1 ∙ is))
+stops_behind check n f x k (text.NoPlus j) is inside p = ap (meeting_after check n f) p.0
+    ∙ ap (λ i. Stopped (Text Reverse (text.NoPlus i))) (sym (p.1 ∙ is))
+stops_behind check n f x k (text.PlusDiffers j) is inside p = ap (meeting_after check n f) p.0
+    ∙ ap (λ i. Stopped (Text Reverse (text.PlusDiffers i))) (sym (p.1 ∙ is))
+stops_behind check n f x k (text.BadQuality j) is inside p = ap (meeting_after check n f) p.0
+    ∙ ap (λ i. Stopped (Text Reverse (text.BadQuality i))) (sym (p.1 ∙ is))
+stops_behind check n f x k (text.QualityLong j) is inside p = ap (meeting_after check n f) p.0
+    ∙ ap (λ i. Stopped (Text Reverse (text.QualityLong i))) (sym (p.1 ∙ is))
+stops_behind check n f x k (text.QualityShort j) is inside p = ap (meeting_after check n f) p.0
+    ∙ ap (λ i. Stopped (Text Reverse (text.QualityShort i))) (sym (p.1 ∙ is))
+stops_behind check n f x k (text.TooLong j) is inside p = ap (meeting_after check n f) p.0
+    ∙ ap (λ i. Stopped (Text Reverse (text.TooLong i))) (sym (p.1 ∙ is))
+stops_behind check n f x k text.Read is inside p = absurd cc
+stops_behind check n f x k text.Endless is inside p = absurd cc
+stops_behind check n f x k text.OutOfMemory is inside p = absurd cc
+
+cut_lacks : (P : Type 0) (why : TextFault) → is_cut why ≡ true → if_read P why → P
+cut_lacks P text.Read cut p = p
+cut_lacks P text.Endless cut p = p
+cut_lacks P text.OutOfMemory cut p = absurd cc
+cut_lacks P (text.NoTitle n) cut p = absurd cc
+cut_lacks P (text.BadSequence n) cut p = absurd cc
+cut_lacks P (text.NoPlus n) cut p = absurd cc
+cut_lacks P (text.PlusDiffers n) cut p = absurd cc
+cut_lacks P (text.BadQuality n) cut p = absurd cc
+cut_lacks P (text.QualityLong n) cut p = absurd cc
+cut_lacks P (text.QualityShort n) cut p = absurd cc
+cut_lacks P (text.TooLong n) cut p = absurd cc
+
+-- the side of a cut
+cut_side : (P : Side → Type 0) (s : Side) (why : TextFault) → (is_cut why ≡ true → P s) →
+    if_cut P (Text s why)
+cut_side P s text.Read p = p refl
+cut_side P s text.Endless p = p refl
+cut_side P s text.OutOfMemory p = tt
+cut_side P s (text.NoTitle n) p = tt
+cut_side P s (text.BadSequence n) p = tt
+cut_side P s (text.NoPlus n) p = tt
+cut_side P s (text.PlusDiffers n) p = tt
+cut_side P s (text.BadQuality n) p = tt
+cut_side P s (text.QualityLong n) p = tt
+cut_side P s (text.QualityShort n) p = tt
+cut_side P s (text.TooLong n) p = tt
+
+endless_behind : (P : Type 0) (why : TextFault) → endless_text P why →
+    if_endless P P (Text Reverse why)
+endless_behind P text.Endless p = p
+endless_behind P text.Read p = tt
+endless_behind P text.OutOfMemory p = tt
+endless_behind P (text.NoTitle n) p = tt
+endless_behind P (text.BadSequence n) p = tt
+endless_behind P (text.NoPlus n) p = tt
+endless_behind P (text.PlusDiffers n) p = tt
+endless_behind P (text.BadQuality n) p = tt
+endless_behind P (text.QualityLong n) p = tt
+endless_behind P (text.QualityShort n) p = tt
+endless_behind P (text.TooLong n) p = tt
+
+-- what stays, and is false later, was false before
+not_before : {before later : Bool} → (before ≡ true → later ≡ true) → later ≡ false → before ≡ false
+not_before {before} {later} stays none = ⊎_elim (λ over. absurd (let h = sym (stays over) ∙ none in
+    cc)) (λ going. going) (cases_Bool before)
+
+module _ {F : Type 0} (state : F → FeedState) (a b c : Sourced F) (p : KeepsCount state a b)
+    (q : KeepsCount state b c) (kept : Read) (check : Bool) (given : ℕ) (before : Bool) (f : Read)
+    (first : GivesRecord state a b f) where
+  -- a fault after a forward mate
+  second_stops : (why : TextFault) → a.given ≡ 2 * given → StopsText state b c why →
+      StopsPairs state (asked a kept check given before)
+      (stopped c f check given (Err (Text Reverse why))) (Text Reverse why)
+  second_stops why even stops =
+      let one = first.given in
+      let n = suc given in
+      let number : b.given + 1 ≡ 2 * n = omega arith in
+      let fault_is : IsTrue (state a.feed).tells → is_outside why ≡ false →
+      front_of state (asked a kept check given before) ≡ Stopped (Text Reverse why) =
+      λ told inside.
+      front_behind state a b c p q kept check given before f first told
+      ∙ stops_behind check n f (front b.encoding (lines (rest_in state b))) (b.given + 1) why number
+      inside (stops.fault_is (p.told ∙ told)) in
+      record {
+        fault_is = fault_is;
+        left = λ told inside. interleaved_left_stopped state (asked a kept check given before)
+            (Text Reverse why) (fault_is told inside);
+        lacks = λ cut told. no_pair state a b c p q told (first.tail told) check given f
+            (first.record_is told) (cut_lacks _ why cut stops.lacks);
+        next = cut_side (IsNext state a c) Reverse why (λ cut told.
+            ap side_after (one_came state a b c p q told (first.tail told) check given f
+            (first.record_is told) (cut_lacks _ why cut stops.lacks)
+            (cut_lacks _ why cut stops.going)));
+        going = λ cut. not_before p.ended (cut_lacks _ why cut stops.going);
+        endless = endless_behind _ why stops.endless;
+        reading = (stops.last, stops.given ∙ first.given);
+        given = refl;
+        last = refl;
+        current = refl;
+      }
+
+  -- a fault that is not one of the text
+  pair_stops : (why : InputFault) → is_cut_short why ≡ false → if_cut (IsNext state a c) why →
+      if_endless (c.max_reads ≤ c.taken) (c.max_reads ≤ c.taken) why → WasReading a c why →
+      (IsTrue (state a.feed).tells →
+      front_of state (asked a kept check given before) ≡ Stopped why) →
+      StopsPairs state (asked a kept check given before) (stopped c f check given (Err why)) why
+  pair_stops why uncut next endless reading fault_is = record {
+    fault_is = λ told inside. fault_is told;
+    left = λ told inside. interleaved_left_stopped state (asked a kept check given before) why
+        (fault_is told);
+    lacks = λ cut. absurd (both_ways (is_cut_short why) uncut cut);
+    next = next;
+    going = λ cut. absurd (both_ways (is_cut_short why) uncut cut);
+    endless = endless;
+    reading = reading;
+    given = refl;
+    last = refl;
+    current = refl;
+  }
+
+  -- if the text ends after a forward mate, the reverse mate is missing
+  mate_missing : EndsText state b c →
+      (let why = MateMissing Reverse (given + 1) in
+      StopsPairs state (asked a kept check given before) (stopped c f check given (Err why)) why)
+  mate_missing ends = pair_stops (MateMissing Reverse (given + 1)) refl tt tt tt (λ told.
+      front_behind state a b c p q kept check given before f first told
+      ∙ ap (meeting_after check (suc given) f) (ends.end_is (p.told ∙ told))
+      ∙ ap (λ k. Stopped (MateMissing Reverse k)) (sym (add-one given)))
+
+  -- two records that were given make no pair if their names differ
+  names_differ : (r : Read) (why : InputFault) → why ≡ NamesDiffer (given + 1) →
+      GivesRecord state b c r → belong check (mates_in f r) ≡ false →
+      StopsPairs state (asked a kept check given before) (stopped c f check given (Err why)) why
+  names_differ r why is second apart =
+      let n = suc given in
+      let ls = lines (rest_in state c) in
+      subst (λ (y : InputFault). StopsPairs state (asked a kept check given before)
+      (stopped c f check given (Err y)) y) (sym is)
+      (pair_stops (NamesDiffer (given + 1)) refl tt tt tt (λ told.
+      front_behind state a b c p q kept check given before f first told
+      ∙ ap (meeting_after check n f) (second.record_is (p.told ∙ told))
+      ∙ cond-false (belong check (mates_in f r)) (Met (mates_in f r) ls ls)
+      (Stopped (NamesDiffer n)) apart
+      ∙ ap (λ k. Stopped (NamesDiffer k)) (sym (add-one given))))
 
 pub returns-in_err-has_second-clause-count : goal.returns-in_err-has_second-clause-count
 returns-in_err-has_second-clause-count g c =
