@@ -2,7 +2,8 @@
 # Each shell script of the repository has no fault that shellcheck finds, and the layout of shfmt.
 # Each Python program has no fault that pyflakes finds. A shell script is a file whose first line
 # names sh or bash; a Python program is one whose first line names python, or whose name ends in .py.
-# Each definition and lemma in crates/ is used by something (tests/unused_lemmas.py).
+# Each definition and lemma in crates/ is used by something, and long proofs of one function stand
+# with it (tests/unused_lemmas.py).
 # Status 77, and 'skipped', if shellcheck is missing.
 set -uo pipefail
 . "$(dirname "$0")/common.bash"
@@ -34,7 +35,7 @@ else
   echo 'scripts: Python: skipped: needs pyflakes3'
 fi
 if command -v python3 > /dev/null; then
-  python3 tests/unused_lemmas.py || fail 'definitions or lemmas are unused'
+  python3 tests/unused_lemmas.py || fail 'definitions or lemmas are unused, or stand elsewhere'
 else
   echo 'scripts: unused lemmas: skipped: needs python3'
 fi

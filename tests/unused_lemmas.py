@@ -1,19 +1,31 @@
 #!/usr/bin/env python3
-"""Checks that each definition and lemma in crates/*/specs/ and crates/*/proofs/ is used.
+"""Checks that each definition and lemma in crates/*/specs/ and crates/*/proofs/ is used, and that
+lemmas which the answers of one function alone need stand with these answers.
 
 A name is used by its own file, outside its declaration and its equations, by a file that imports it,
 or by an attribute of the code. Answers to goals, invariants, worked examples, operators and the
-fields of a record need no user. Run it in the root of the repository.
+fields of a record need no user.
+
+A file needs what it uses, and what that uses in turn; if it needs one lemma of a module, it needs
+all of them. Lemmas of the same crate that nothing but one Answers.antt needs may stand elsewhere if
+they have fewer than ALONE lines in all, without comments.
+Run it in the root of the repository.
 """
 import re
 import sys
+from collections import Counter, defaultdict
 from pathlib import Path
 
 WORD = re.compile(r"[^\s(){}\[\],;.:\"]+")
 IMPORT = re.compile(r" *(?:ghost |pub )*use Rattle\.([\w.-]+?)(?:\.\{([^}]*)\}| as \w+)?;?$")
 # A declaration of a record or of anything else, or an equation: its kind, its name, and ' :'.
 LINE = re.compile(r" *(?:(?:abbrev|rec|pub) )*(?:(record|data) )?([A-Za-z_][^\s(){}\[\],;.:]*)( :(?= |$))?")
-DEPTHS = (0, 2)  # the columns where declarations begin, in a file or in a module of it
+ALONE = 80
+# Crates, and one function, whose lemmas are not yet with the function that alone needs them.
+NOT_YET = (
+    "fq_app/", "fq_app_words/", "fq_files/", "fq_app_files/", "fq_law_runs/", "fq_parts/", "fq_prog/", "fq_report_reads/",
+    "fq_app_reasons/", "fq_run/", "fq_run_core/", "fq_report_pairs/", "fq_work/", "fq_pair/proofs/texts/Texts/add_kept/",
+)
 
 
 def imports(line):
@@ -25,54 +37,128 @@ def imports(line):
 
 
 def declarations(lines):
-    """The names of a file with the lines that declare them, and the words that each name's lines
-    have. The words of what belongs to no name, as a module's parameters, are those of None."""
-    at, words, owner, fields = {}, {None: set()}, None, None
+    """The names of a file with the lines that declare them, the words and the number of each name's
+    lines, and the lines where the outermost modules of names begin. The words of a module's
+    parameters are said by each of its names."""
+    at, words, size, outermost, owner = {}, {}, Counter(), {}, None
+    modules, header, begins, opened = [(0, set())], None, False, None
     for number, line in enumerate(lines, 1):
         code = re.sub(r"(^|\s)--.*", "", line)
         indent = len(code) - len(code.lstrip())
         if not code.strip() or imports(code):
             continue
-        if fields is not None and indent <= fields:
-            fields = None
+        if begins:
+            modules.append((indent, modules[-1][1] | header))
+            header, begins = None, False
         found = LINE.match(code)
-        if code.lstrip().startswith("module "):
-            owner = None
-        elif found and fields is None and indent in DEPTHS:
-            if found[1] or found[3]:
+        if found and header is None and indent in [column for column, _ in modules]:
+            modules = [module for module in modules if module[0] <= indent]
+            opened = opened if len(modules) > 1 else None
+            if found[2] == "module":
+                header, opened = set(), opened or number
+            elif found[1] or found[3]:
                 owner = found[2]
+                words.setdefault(owner, set()).update(modules[-1][1])
                 if " : goal." not in code:
                     at.setdefault(owner, number)
-                fields = indent if found[1] else None
+                    outermost[owner] = opened
             elif found[2] in words:
                 owner = found[2]
-        words.setdefault(owner, set()).update(WORD.findall(code))
-    return at, words
+        if header is not None:
+            header.update(WORD.findall(code))
+            begins = code.endswith("where")
+        else:
+            words.setdefault(owner, set()).update(WORD.findall(code))
+            size[owner] += 1
+    return at, words, size, outermost
+
+
+class Proofs:
+    """A file of definitions, lemmas or answers."""
+
+    def __init__(self, path):
+        lines = path.read_text(encoding="utf-8").splitlines()
+        self.path, self.module = path, ".".join(path.with_suffix("").parts[1:])
+        self.at, self.words, self.size, self.outermost = declarations(lines)
+        self.imported = {pair for line in lines for pair in imports(line)}
+        self.last = path.stem in ("Answers", "Invariants") or path.stem.endswith("Examples")
+
+    def needs(self, name):
+        """The names that a name's lines say, of this file and others, and those of its module."""
+        words, of_module = self.words[name], self.outermost.get(name)
+        found = {other for other in self.at if other in words}
+        if of_module:
+            found.update(other for other in self.at if self.outermost[other] == of_module)
+        elsewhere = {
+            (module, other)
+            for module, names in self.imported
+            for other in (words if names == "*" else {names} & words)
+        }
+        return elsewhere | {(self.module, other) for other in found - {name}}
+
+
+def needed_by(files, in_code):
+    """The files of answers, invariants, examples and definitions that need each (module, name), and
+    'code' if the code does."""
+    needs = {(file.module, name): file.needs(name) for file in files for name in file.words}
+    starts = {"code": in_code}
+    for file in files:
+        if file.last or "specs" in file.path.parts:
+            starts[file.path] = {(file.module, name) for name in file.words}
+    users = defaultdict(set)
+    for start, names in starts.items():
+        seen, left = set(names), list(names)
+        while left:
+            more = needs.get(left.pop(), set()) - seen
+            seen |= more
+            left += more
+        for name in seen:
+            users[name].add(start)
+    return users
+
+
+def apart(files, in_code):
+    """The files of answers with ALONE lines and more of lemmas elsewhere that nothing else needs:
+    the number of these lines, and the lemmas."""
+    users, lines, names = needed_by(files, in_code), Counter(), defaultdict(list)
+    for file in files:
+        for name in [] if file.last else file.at:
+            user, *others = users[(file.module, name)] or {"code"}
+            if not others and user != "code" and user.stem == "Answers" and user.parts[1] == file.path.parts[1]:
+                lines[user] += file.size[name]
+                names[user].append(name)
+    return [(user, count, names[user]) for user, count in sorted(lines.items()) if count >= ALONE]
 
 
 def main():
     proofs = sorted(path for part in ("specs", "proofs") for path in Path("crates").glob(f"*/{part}/**/*.antt"))
     code = [path for top in ("crates", "bench") for path in Path(top).rglob("*.rt*") if "out" not in path.parts]
-    used, attributes, count, unused = set(), set(), 0, 0
-    for path in proofs + code:
+    files = [Proofs(path) for path in proofs]
+    in_code, attributes, count, faults = set(), set(), 0, 0
+    for path in code:
         for line in path.read_text(encoding="utf-8").splitlines():
-            used.update(imports(line))
-            if path.suffix != ".antt" and line.lstrip().startswith("#["):
-                attributes.update(WORD.findall(line))
-    for path in proofs:
-        if path.stem == "Invariants" or path.stem.endswith("Examples"):
+            in_code.update(imports(line))
+            if line.lstrip().startswith("#["):
+                attributes.update(WORD.findall(re.sub(r'"[^"]*"', "", line)))
+    used = in_code.union(*(file.imported for file in files))
+    for file in files:
+        if file.path.stem == "Invariants" or file.path.stem.endswith("Examples"):
             continue
-        module = ".".join(path.with_suffix("").parts[1:])
-        at, words = declarations(path.read_text(encoding="utf-8").splitlines())
-        for name, number in at.items():
+        for name, number in file.at.items():
             count += 1
-            here = any(name in said for owner, said in words.items() if owner != name)
-            if not here and name not in attributes and not used & {(module, name), (module, "*")}:
-                print(f"unused_lemmas: {path}:{number}: nothing uses {name}")
-                unused += 1
-    if not unused:
-        print(f"unused_lemmas: ok, each of {count} names is used")
-    return 1 if unused else 0
+            here = any(name in said for owner, said in file.words.items() if owner != name)
+            if not here and name not in attributes and not used & {(file.module, name), (file.module, "*")}:
+                print(f"unused_lemmas: {file.path}:{number}: nothing uses {name}")
+                faults += 1
+    in_code.update((file.module, name) for file in files for name in file.at if name in attributes)
+    for path, lines, names in apart(files, in_code):
+        if not str(path.relative_to("crates")).startswith(NOT_YET):
+            print(f"unused_lemmas: {path}: it alone needs {lines} lines of lemmas: put them there,")
+            print(f"  without pub: {', '.join(names)}")
+            faults += 1
+    if not faults:
+        print(f"unused_lemmas: ok, each of {count} names is used, and long proofs stand where they are used")
+    return 1 if faults else 0
 
 
 if __name__ == "__main__":
