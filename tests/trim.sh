@@ -264,7 +264,8 @@ if has cutadapt cutadapt; then
 fi
 
 row='words that the program refuses'
-refused 2 "tibzharuk: bad step 2: Unknown: 'crop:5' is no step (LEADING, TRAILING, SLIDINGWINDOW, CROP, HEADCROP, AVGQUAL, MINLEN, TOPHRED33)" "${both[@]}" "${outputs[@]}" -- LEADING:3 crop:5
+refused 2 'tibzharuk: crop:5 is no step; did you mean CROP:5?' "${both[@]}" "${outputs[@]}" -- LEADING:3 crop:5
+refused 2 "tibzharuk: bad step 2: Unknown: 'foo:5' is no step (LEADING, TRAILING, SLIDINGWINDOW, CROP, HEADCROP, AVGQUAL, MINLEN, TOPHRED33)" "${both[@]}" "${outputs[@]}" -- LEADING:3 foo:5
 refused 2 'tibzharuk: bad step 0: NoSteps: the files must be followed by one step or more, as MINLEN:36' "${both[@]}" "${outputs[@]}" --
 refused 2 'tibzharuk: bad encoding: phred: it can be sanger (Phred+33), illumina13 (Phred+64) or solexa' "${both[@]}" "${outputs[@]}" --encoding phred "${last[@]}"
 refused 2 'tibzharuk: bad setting: workers: --threads is 0, and can be 1 to 64' "${both[@]}" "${outputs[@]}" --threads 0 "${last[@]}"

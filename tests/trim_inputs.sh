@@ -87,7 +87,7 @@ printf 'BZh91AY&SY\0\0' > f.bz2
 printf '\xfd7zXZ\0\0\4' > f.xz
 printf '\x28\xb5\x2f\xfd$\0' > f.zst
 for each in bz2:bzip2 xz:xz zst:zstd; do
-  refused 3 "tibzharuk: cannot read data/f.${each%:*}: it is compressed by ${each#*:}, not by gzip" -1 "data/f.${each%:*}" -2 data/r.gz "${rest[@]}"
+  refused 3 "tibzharuk: cannot read data/f.${each%:*}: it is compressed by ${each#*:}, not by gzip; ${each#*:} -d decompresses it" -1 "data/f.${each%:*}" -2 data/r.gz "${rest[@]}"
 done
 row='outputs in other formats'
 for each in bz2 xz zst Bz2; do

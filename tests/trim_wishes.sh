@@ -279,10 +279,10 @@ same '' -2 ./LEADING:3 --out out/s -1 ./MINLEN:36 -- LEADING:3 TRAILING:3 MINLEN
 row='steps without --, that are wrong'
 trimmed -1 plain_1.fq -2 plain_2.fq --out out/s LEADNG:3
 [ "$(cat status)" -eq 2 ] || fail "status $(cat status), not 2"
-grep -q "^tibzharuk: bad step 1: .*'LEADNG:3'" told || fail "it says $(cat told)"
+grep -qxF 'tibzharuk: LEADNG:3 is no step; did you mean LEADING:3?' told || fail "it says $(cat told)"
 steps=(MINLEN:36 --sync)
 refused 1 '--sync comes after the steps; options come before them (tibzharuk trim --help)' -1 plain_1.fq -2 plain_2.fq --out out/s
 steps=(minlen:36)
-refused 1 'minlen:36 is not an option; steps are words such as MINLEN:36 (tibzharuk trim --help)' -1 plain_1.fq -2 plain_2.fq --out out/s --sync
+refused 1 'minlen:36 is not an option; did you mean MINLEN:36? (tibzharuk trim --help)' -1 plain_1.fq -2 plain_2.fq --out out/s --sync
 
 finish ok

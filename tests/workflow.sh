@@ -126,7 +126,7 @@ refused_setting() {
 
 # Settings by which no sample can be trimmed are refused before any job starts.
 bad_settings() {
-  refused_setting steps LEADIN:3 "bad step 1: Unknown: 'LEADIN:3' is no step"
+  refused_setting steps LEADIN:3 'LEADIN:3 is no step; did you mean LEADING:3?'
   refused_setting options '--encoding phred' 'bad encoding: phred'
   refused_setting options --frob '--frob is not an option'
   refused_setting options '--threads 2' '--threads is given twice'

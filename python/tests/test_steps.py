@@ -4,7 +4,7 @@ import pytest
 
 from tibzharuk.trim.arguments import Arguments
 from tibzharuk.trim.faults import Fault
-from tibzharuk.trim.steps import is_step
+from tibzharuk.trim.steps import is_step, meant
 
 
 @pytest.mark.parametrize("word, wanted", (
@@ -39,3 +39,59 @@ def test_what_is_refused_among_steps(words, status):
     with pytest.raises(Fault) as caught:
         Arguments(words.split())
     assert caught.value.status == status
+
+
+@pytest.mark.parametrize("word, wanted", (
+    ("leading:3", "LEADING:3"), ("LEADNG:3", "LEADING:3"), ("MinLen:36", "MINLEN:36"), ("MINLENGTH:36", "MINLEN:36"),
+    ("SLIDINGWINDOWS:4:15", "SLIDINGWINDOW:4:15"), ("topphred33", "TOPHRED33"), ("minlen", "MINLEN"),
+    ("LEADING:3", None), ("CROP", None), ("CROP:x", None), ("FOO:1", None), ("TRIM:3", None), ("x.fq", None), ("", None),
+))
+def test_what_was_meant(word, wanted):
+    assert meant(word) == wanted
+
+
+NO_FILE = " is neither a file nor a step; did you mean {}?"
+
+
+@pytest.mark.parametrize("words, status, line", (
+    ("LEADNG:3 MINLEN:36", 2, "LEADNG:3 is no step; did you mean LEADING:3?"),
+    ("-- leading:3", 2, "leading:3 is no step; did you mean LEADING:3?"),
+    ("-- MINLEN:3 MAXLEN:3", 2, "MAXLEN:3 is not among the steps here: --cutadapt '-M 300' drops pairs with reads of more than 300 bases"),
+    ("-- ILLUMINACLIP:a.fa:2:30:10", 2,
+     "ILLUMINACLIP:a.fa:2:30:10 is not among the steps here: --adapters removes adapters, and tibzharuk PE takes this step"),
+    ("-- FOO:1 CROP:x", None, None),     # the program says what is wrong with these
+))
+def test_steps_that_are_none(words, status, line):
+    call = "-1 a -2 b --out s".split() + words.split()
+    if status is None:
+        Arguments(call).check()
+        return
+    with pytest.raises(Fault) as caught:
+        Arguments(call).check()
+    assert (caught.value.status, caught.value.line) == (status, line)
+
+
+@pytest.mark.parametrize("words, name, wanted", (
+    ("-1 a -2 b leading:3 --out s MINLEN:3", "leading:3", "LEADING:3"), ("-i a minlen:36 --out s", "minlen:36", "MINLEN:36"),
+    ("-1 a -2 b:3 --out s MINLEN:3", None, None), ("-1 a -2 crops --out s MINLEN:3", None, None),
+))
+def test_steps_among_inputs(words, name, wanted, tmp_path, monkeypatch):
+    monkeypatch.chdir(tmp_path)
+    if name is None:
+        Arguments(words.split()).check()
+        return
+    with pytest.raises(Fault) as caught:
+        Arguments(words.split()).check()
+    assert (caught.value.status, caught.value.line) == (2, name + NO_FILE.format(wanted))
+    (tmp_path / name).touch()
+    with pytest.raises(Fault) as caught:
+        Arguments(words.split()).check()
+    assert caught.value.status == 1
+
+
+def test_files_without_an_option(tmp_path, monkeypatch):
+    monkeypatch.chdir(tmp_path)
+    (tmp_path / "r1.fq.gz").touch()
+    with pytest.raises(Fault) as caught:
+        Arguments(["r1.fq.gz", "r2.fq.gz", "MINLEN:36"])
+    assert (caught.value.status, caught.value.line) == (1, "r1.fq.gz: a file comes after -1, -2 or -i (tibzharuk trim --help)")

@@ -69,6 +69,7 @@ NEEDED = (
     (FOUR, "no input: -1 and -2, or -i (tibzharuk trim --help)"),
     (["-1", "a"], "1 forward files (-1), but 0 reverse files (-2)"),
     (["-i", "a"] + FOUR[2:], "no --paired1 (tibzharuk trim --help)"),
+    (["-i", "a", "--report", "r", "MINLEN:3"], "no names for the outputs: --out PREFIX names all (tibzharuk trim --help)"),
     (["-i", "a"] + FOUR, "no steps, such as MINLEN:36 (tibzharuk trim --help)"),
     (["-i", "a", "--cutadapt-log", "x"] + FOUR + ["--"],
      "--cutadapt-log without --adapters or --cutadapt"),
@@ -476,15 +477,24 @@ class TestFiles(Pieces):
         assert os.listdir(self.folder) == [name]
         os.unlink(output.target)
 
-    @pytest.mark.parametrize("head, name", (
-        (b"BZh91AY&SY", "bzip2"), (b"\xfd7zXZ\0\0", "xz"), (b"\x28\xb5\x2f\xfd$", "zstd"),
-        (b"PK\3\4\x14", "zip"), (b"\x1f\x8b\x08", None), (b"@r1", None), (b"", None),
+    @pytest.mark.parametrize("head, why", (
+        (b"BZh91AY&SY", "it is compressed by bzip2, not by gzip; bzip2 -d decompresses it"),
+        (b"\xfd7zXZ\0\0", "it is compressed by xz, not by gzip; xz -d decompresses it"),
+        (b"\x28\xb5\x2f\xfd$", "it is compressed by zstd, not by gzip; zstd -d decompresses it"),
+        (b"PK\3\4\x14", "it is compressed by zip, not by gzip; unzip decompresses it"),
+        (b"@HD\tVN:1.6\n", "it is SAM; samtools fastq makes FASTQ of it"),
+        (gzip.compress(b"@SQ\tSN:chr1\n"), "it is SAM; samtools fastq makes FASTQ of it"),
+        (gzip.compress(b"BAM\1\0\0"), "it is BAM; samtools fastq makes FASTQ of it"),
+        (b"CRAM\3", "it is CRAM; samtools fastq makes FASTQ of it"),
+        (b"\n<!DOCTYPE HTML><title>404", "it is a web page, so its download failed"),
+        (gzip.compress(b"<html>"), "it is a web page, so its download failed"),
+        (b"\x1f\x8b\x08", None), (b"\x1f\x8b\x08\0\0\0\0\0\0\3\xff\xff", None), (gzip.compress(b"@HD\n"), None),
+        (b"@HD VN:1", None), (b">r1", None), (b"@r1", None), (b"", None),
     ))
-    def test_formats(self, head, name):
+    def test_formats(self, head, why):
         each = files.Input(self.put("f.gz", head))
-        if name:
-            line = f"cannot read {each.name}: it is compressed by {name}, not by gzip"
-            assert self.refused(each.look) == (3, line)
+        if why:
+            assert self.refused(each.look) == (3, f"cannot read {each.name}: {why}")
         else:
             assert not each.look()
 

@@ -22,7 +22,7 @@ from .trim.fasta import Entry, other_strand, read_fasta
 from .trim.faults import Fault
 from .trim.files import holds_reads
 from .trim.known_adapters import first_reads
-from .trim.steps import CLIP, STEPS, WITHOUT, is_step, name_of
+from .trim.steps import CLIP, STEPS, WITHOUT, is_step, meant, name_of
 from .trim.tools import which
 
 HELP = "(tibzharuk PE --help)"
@@ -162,6 +162,8 @@ def check_steps(places: Sequence[str], steps: Sequence[str]) -> None:
         if name_of(step) in WITHOUT:
             raise Fault(2, f"{step} is not among the steps here: {WITHOUT[name_of(step)]}")
         if not is_step(step):
+            if meant(step):
+                raise Fault(2, f"{step} is not a step; did you mean {meant(step)}? {HELP}")
             before = f"; before the steps are {' '.join(places)}" if places else ""
             raise Fault(2, f"{step} is not a step: {', '.join(STEPS)}{before} {HELP}")
 

@@ -9,7 +9,7 @@ from typing import Any, Callable, Dict, List, NoReturn, Optional, Sequence, Tupl
 
 from .faults import Fault
 from .known_adapters import AUTO, NONE
-from .steps import CLIP, WITHOUT, is_step, name_of
+from .steps import CLIP, WITHOUT, is_step, meant, name_of
 from .tools import COMPRESSORS, DECOMPRESSORS
 
 READS = ("paired1", "unpaired1", "paired2", "unpaired2")
@@ -41,6 +41,7 @@ REFUSED_NAMES = (
 LETTERS_WITHOUT_VALUE = "NZz"    # of cutadapt: another option may follow in the same word
 PASSED_NUMBERS = {"block": 65536, "depth": 64, "chunk": 1048576}   # and the most of each
 MOST_PAIRS = 10 ** 12
+MISPLACED = re.compile("[A-Za-z0-9]+:[0-9]")     # a word that could be a step
 HELP = "(tibzharuk trim --help)"
 EMPTY = "an argument is empty: is a variable not set?"
 
@@ -216,9 +217,13 @@ class Parser(argparse.ArgumentParser):
     def astray(self, word: str) -> Fault:
         """The fault of a word that is neither an option nor the value of one."""
         import difflib
+        if os.path.exists(word):
+            return Fault(1, f"{word}: a file comes after -1, -2 or -i {HELP}")
         name = word.partition("=")[0]
         near = difflib.get_close_matches(name, self.takes_value, 1, 0.7) if word[0] == "-" else []
-        hint = f"did you mean {near[0]}?" if near else "steps are words such as MINLEN:36"
+        hint = "steps are words such as MINLEN:36"
+        if near or misplaced_step(word):
+            hint = f"did you mean {near[0] if near else misplaced_step(word)}?"
         return Fault(1, f"{word} is not an option; {hint} {HELP}")
 
     def error(self, message: str) -> NoReturn:
@@ -230,11 +235,24 @@ def check_steps(steps: Sequence[str]) -> None:
     for step in steps:
         if step.startswith("-"):
             raise Fault(1, f"{step} comes after the steps; options come before them {HELP}")
-        if name_of(step) in WITHOUT:
-            raise Fault(2, f"{step} is not among the steps here: {WITHOUT[name_of(step)]}")
-        if name_of(step) == CLIP:
-            raise Fault(2, f"{step} is not among the steps here: --adapters removes adapters, "
-                           "and tibzharuk PE takes this step")
+        check_step(step)
+
+
+def check_step(step: str) -> None:
+    """Refuses a step that is another program's, or misspelled. The program refuses all others."""
+    name = name_of(step)
+    if name in WITHOUT:
+        raise Fault(2, f"{step} is not among the steps here: {WITHOUT[name]}")
+    if name == CLIP:
+        raise Fault(2, f"{step} is not among the steps here: --adapters removes adapters, "
+                       "and tibzharuk PE takes this step")
+    if meant(step):
+        raise Fault(2, f"{step} is no step; did you mean {meant(step)}?")
+
+
+def misplaced_step(word: str) -> Optional[str]:
+    """The step that a word which is no file seems to be."""
+    return meant(word) if MISPLACED.match(word) and not os.path.exists(word) else None
 
 
 def flat(lists: Sequence[List[str]]) -> List[str]:
@@ -282,6 +300,10 @@ class Arguments:
 
     def check(self) -> None:
         """Refuses arguments that lack an input, an output or the steps, or don't fit together."""
+        for name in self.inputs():
+            step = misplaced_step(name)
+            if step:
+                raise Fault(2, f"{name} is neither a file nor a step; did you mean {step}?")
         if self.both and (self.forward or self.reverse):
             raise Fault(1, "either -i, or -1 and -2")
         if not self.both and not self.forward:
@@ -292,8 +314,12 @@ class Arguments:
         self.check_outputs()
         if self.steps is None:
             raise Fault(1, f"no steps, such as MINLEN:36 {HELP}")
+        for step in self.steps:
+            check_step(step)
 
     def check_outputs(self) -> None:
+        if not any(role in self.outputs for role in (*READS, "interleaved")):
+            raise Fault(1, f"no names for the outputs: --out PREFIX names all {HELP}")
         for role in READS:
             if self.written_as(role) not in self.outputs:
                 raise Fault(1, f"no --{role} {HELP}")

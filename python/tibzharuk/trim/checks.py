@@ -9,8 +9,13 @@ from typing import List, Optional, Sequence, Tuple
 from .faults import Fault, warn
 from .known_adapters import pieces
 
-FORMATS = (
-    (b"BZh", "bzip2"), (b"\xfd7zXZ\0", "xz"), (b"\x28\xb5\x2f\xfd", "zstd"), (b"PK\3\4", "zip"))
+# How other files begin, and what decompresses them or makes FASTQ of them.
+COMPRESSED = (
+    (b"BZh", "bzip2", "bzip2 -d"), (b"\xfd7zXZ\0", "xz", "xz -d"),
+    (b"\x28\xb5\x2f\xfd", "zstd", "zstd -d"), (b"PK\3\4", "zip", "unzip"))
+MAPPED = ((b"BAM\1", "BAM"), (b"CRAM", "CRAM"), (b"@HD\tVN:", "SAM"), (b"@SQ\tSN:", "SAM"))
+WEB_PAGE = re.compile(rb"\s*<(!doctype )?html", re.IGNORECASE)
+FRONT_BYTES = 4096
 BLOCK_BYTES = 1 << 16   # the most that a block of BGZF can have
 BLOCK_START = b"\x1f\x8b\x08\x04"
 BLOCK_EXTRA = b"\x06\0BC\x02\0"
@@ -25,8 +30,19 @@ PASSED = "(--no-name-check passes them)"
 
 
 def other_format(head: bytes) -> Optional[str]:
-    """The program that compressed a file which begins so, if it isn't one that is read here."""
-    return next((name for start, name in FORMATS if head.startswith(start)), None)
+    """What a file is that begins so, if it isn't one that is read here, and what helps."""
+    for start, name, tool in COMPRESSED:
+        if head.startswith(start):
+            return f"it is compressed by {name}, not by gzip; {tool} decompresses it"
+    text = head
+    if head.startswith(b"\x1f\x8b"):
+        text = b""
+        with contextlib.suppress(zlib.error):
+            text = zlib.decompressobj(31).decompress(head, FRONT_BYTES)
+    for start, name in MAPPED:
+        if text.startswith(start):
+            return f"it is {name}; samtools fastq makes FASTQ of it"
+    return "it is a web page, so its download failed" if WEB_PAGE.match(text) else None
 
 
 def lacks_end(fd: int, size: int) -> bool:

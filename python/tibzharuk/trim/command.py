@@ -83,14 +83,14 @@ OPTIONS
                            SEQUENCE for both; or SEQUENCE,SEQUENCE for the
                            forward and the reverse side. Given again, it adds
                            others
-    --poly-g               trim the ends of reads by quality 20, as if each G
-                           there were poor: for machines of two colours
-                           (--nextseq-trim=20 of cutadapt)
+    --poly-g               remove the G's that NextSeq and NovaSeq write at the
+                           ends of reads where they see nothing, and other
+                           poor ends (--nextseq-trim=20 of cutadapt)
     --cutadapt 'OPTIONS'   more options for cutadapt, such as '-e 0.2 -O 5'
     --cutadapt-report OUT  what cutadapt counted, as JSON
     --cutadapt-log OUT     what cutadapt printed, which MultiQC reads
-    --need-end             refuse a file whose BGZF lacks its end block, since
-                           it may be cut (a warning)
+    --need-end             refuse a BGZF file without its end block, which may
+                           be cut (without this option there is a warning)
     --pairs N              trim only the first N pairs of all lanes together,
                            to try settings. The report and a warning say so
     -t N, --threads N      threads, 1 to 64 (as many as there are processors)

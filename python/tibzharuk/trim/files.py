@@ -10,7 +10,7 @@ import sys
 from typing import TYPE_CHECKING, Dict, Iterable, List, Optional, Sequence
 
 from .arguments import READS
-from .checks import END_BLOCK, beginning, lacks_end, other_format
+from .checks import END_BLOCK, FRONT_BYTES, beginning, lacks_end, other_format
 from .faults import Fault, reason, write_all
 from .tools import which
 
@@ -169,10 +169,9 @@ class Input:
             return False
         try:
             with open(self.name, "rb") as file:
-                other = other_format(file.read(6))
+                other = other_format(file.read(FRONT_BYTES))
                 if other:
-                    why = f"it is compressed by {other}, not by gzip"
-                    raise Fault(3, f"cannot read {self.name}: {why}")
+                    raise Fault(3, f"cannot read {self.name}: {other}")
                 return lacks_end(file.fileno(), self.size)
         except OSError as error:
             raise Fault(4, f"cannot read {self.name}: {reason(error)}")

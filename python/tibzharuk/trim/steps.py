@@ -1,6 +1,7 @@
 """The words of steps, which need no -- before them."""
 
 import re
+from typing import Optional
 
 STEPS = ("LEADING", "TRAILING", "SLIDINGWINDOW", "CROP", "HEADCROP", "AVGQUAL", "MINLEN",
          "TOPHRED33")
@@ -25,3 +26,13 @@ def is_step(word: str) -> bool:
 
 def name_of(step: str) -> str:
     return step.partition(":")[0]
+
+
+def meant(word: str) -> Optional[str]:
+    """The step that a misspelled word seems to be, also one in small letters."""
+    import difflib
+    name, colon, numbers = word.partition(":")
+    if name in STEPS:
+        return None
+    near = difflib.get_close_matches(name.upper(), STEPS, 1, 0.75)
+    return near[0] + colon + numbers if near else None
