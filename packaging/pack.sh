@@ -58,7 +58,7 @@ put_tree() {
 # The documents, and below licences/ what the C library's licence asks to be passed on.
 put_documents() {
   local to=$1 file
-  for file in README.md CHANGELOG.md CONTRIBUTING.md SECURITY.md CITATION.cff NOTICES.md LICENSE-MIT LICENSE-APACHE; do put 644 "$file" "$to/$file"; done
+  for file in README.md CHANGELOG.md CONTRIBUTING.md SECURITY.md CITATION.cff NOTICES.md LICENSE-MIT LICENSE-APACHE LICENSE-UNICODE; do put 644 "$file" "$to/$file"; done
   put_tree "$to" docs
   # (what the measurements mean, to which README.md leads, without the scripts that measure)
   for file in $(files_of bench | grep '\.md$'); do put 644 "$file" "$to/$file"; done

@@ -84,7 +84,7 @@ run_by_buildah() {
     > "$work/adapters/summary" || fail 'tibzharuk trim with adapters fails in buildah'
   same_as_direct adapters
   [ "$(in_buildah run "$container" -- tibzharuk --version | paste -sd ' ')" = "tibzharuk $version fq_prog $version $(rt version)" ] || fail 'the image has another version'
-  in_buildah run "$container" -- sh -c 'ps && cat /usr/share/doc/tibzharuk/NOTICES.md' > "$work/log" 2>&1 || fail 'the image lacks ps or the notices'
+  in_buildah run "$container" -- sh -c 'ps && cd /usr/share/doc/tibzharuk && cat NOTICES.md LICENSE-MIT LICENSE-UNICODE' > "$work/log" 2>&1 || fail 'the image lacks ps or the notices'
   in_buildah rm "$container" > /dev/null
   rm -rf "$work/images" "$work/run"
 }

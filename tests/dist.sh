@@ -119,7 +119,7 @@ check_tarball() {
   mkdir "$work/empty"
   tar -C "$work/empty" -xzf "$tarball" || fail 'the tarball is not unpacked'
   [ "$(ls "$work/empty")" = "${release##*/}" ] || fail "the tarball has another directory: $(ls "$work/empty")"
-  for file in README.md CHANGELOG.md CONTRIBUTING.md SECURITY.md CITATION.cff NOTICES.md LICENSE-MIT LICENSE-APACHE \
+  for file in README.md CHANGELOG.md CONTRIBUTING.md SECURITY.md CITATION.cff NOTICES.md LICENSE-MIT LICENSE-APACHE LICENSE-UNICODE \
     $(installed_files python); do
     [ -s "$release/$file" ] || fail "the tarball lacks $file"
   done
@@ -188,7 +188,7 @@ check_package() {
   run_example 'the program of the package' env -i "$root/usr/bin/fq_prog"
   check_links "$root"
   for file in $(installed_files share/tibzharuk/python | sed 's|\(share/man/.*\)|\1.gz|; s|zsh/site-functions|zsh/vendor-completions|') \
-    share/doc/tibzharuk/{copyright,README.md,SECURITY.md,CITATION.cff,CHANGELOG.md,changelog.gz,NOTICES.md,licences/LGPL-2.1} \
+    share/doc/tibzharuk/{copyright,README.md,SECURITY.md,CITATION.cff,CHANGELOG.md,changelog.gz,NOTICES.md,LICENSE-MIT,LICENSE-UNICODE,licences/LGPL-2.1} \
     lib/tibzharuk/relink/fq_prog.o; do
     [ -s "$root/usr/$file" ] || fail "the package lacks $file"
   done
