@@ -183,14 +183,4 @@ call 0 --profile profiles/local
 ran 4
 same_logs s1 s2 s3 s4
 
-new_lab old
-row='the settings of 1.0.0'
-cp reads/s4_L001_R2.fq.gz.whole reads/s4_L001_R2.fq.gz
-sed "s|^program:.*|program: $program|; s/^line_graphs:.*/line_graphs: true/" "$tree/tests/workflow/config_1.0.0.yaml" > config/config.yaml
-call 0 --profile profiles/local
-ran 4
-same_as_direct s1 s2 s3 s4
-same_logs s1 s2 s3 s4
-page_tells s1 s2 s3 s4
-
 end_lab

@@ -30,13 +30,9 @@ def test_the_table_says_what_was_set(options, adapters, row_of_options, row_of_a
         "Adapters": row_of_adapters}
 
 
-@pytest.mark.parametrize("text, wanted", (
-    ("fq_prog 1.2.0\nLEADING:3\ntruseq\n", ("fq_prog 1.2.0", "LEADING:3")),
-    ("fq_prog 1.2.0\nLEADING:3\n\n\n", ("fq_prog 1.2.0", "LEADING:3")),
-    ("", ("not recorded", "not recorded")),
-))
-def test_a_file_without_names(text, wanted):
-    assert tuple(settings.read_settings(text).values()) == (*wanted, *["not recorded"] * 2)
+def test_a_file_that_lacks_fields():
+    got = settings.read_settings("program: fq_prog 2.0.0\n")
+    assert tuple(got.values()) == ("fq_prog 2.0.0", *["not recorded"] * 3)
 
 
 def test_samples_that_were_trimmed_in_two_ways_are_named():

@@ -36,8 +36,7 @@ config["adapters"] = config.get("adapters") or ""
 # No such line, an empty one, `off` and `none` are the same: one job trims all lanes of a sample.
 config["scatter"] = config.get("scatter") or "none"
 
-# Settings of 1.0.0 still work. `line_graphs: true` kept the trim logs. `graphs` was for jobs that no longer exist, and is ignored.
-config.setdefault("trim_logs", config.get("line_graphs", False))
+config.setdefault("trim_logs", False)
 
 try:
     check_settings(config, HERE / "schemas" / "config.schema.yaml")

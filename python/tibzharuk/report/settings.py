@@ -1,8 +1,7 @@
 """How the workflow trimmed a sample: what a job writes beside the summary, and its table on the
 page of all samples.
 
-The file has a line for each field, its name before `: `. Versions before 2.0.0 wrote the program
-and the steps without names, on the first two lines.
+The file has a line for each field, its name before `: `.
 """
 
 from typing import Dict, List, Mapping
@@ -23,10 +22,7 @@ def settings_lines(steps: str, options: str, adapters: str) -> List[str]:
 
 def read_settings(text: str) -> Settings:
     """The fields of such a file; one that it lacks is UNKNOWN."""
-    lines = text.splitlines()
-    named = dict(line.split(": ", 1) for line in lines if ": " in line)
-    if "program" not in named:
-        named = dict(zip(FIELDS[:2], lines))
+    named = dict(line.split(": ", 1) for line in text.splitlines() if ": " in line)
     return {name: named.get(name, UNKNOWN) for name in FIELDS}
 
 
