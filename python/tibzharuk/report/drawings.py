@@ -67,48 +67,44 @@ def not_drawn(*sets: Sides) -> str:
     return f" Positions above {LAST - 1:,} are not drawn." if more else ""
 
 
-def before_after_graph(graph: Graph, over: Sequence[Span], lines: Sequence[Means]) -> Graph:
-    """The graph with a line before trimming and one after it."""
-    graph.line(points(lines[0]), "grey", dashed=True)
-    graph.line(points(lines[1]), "blue")
-    for span in over:
-        values = [f"{found[span]:.1f}" if span in found else None for found in lines]
-        if any(values):
-            graph.tip(span[0] + 0.5, span[1] + 0.5, span_name(span), values)
-    return graph
+def means_by_position(title: str, said: str, axes: Axes, field: str, factor: int, least: float,
+                      before: Sides, after: Sides, marks: Sequence[int] = ()) -> str:
+    """A section of the means of a field before trimming and after it, with marks at these scores.
+    Its graphs go up to `least` or higher."""
+    def make(side: str) -> Iterator[Graph]:
+        over = position_spans(before[side], after[side])
+        lines = [means(reads[side], field, over, factor) for reads in (before, after)]
+        high = max(itertools.chain([least], *(found.values() for found in lines)))
+        graph = Graph(side, axes, 1, over[-1][1] if over else 1, high)
+        for score in marks:
+            graph.mark(score, f"Q{score}")
+        graph.line(points(lines[0]), "grey", dashed=True)
+        graph.line(points(lines[1]), "blue")
+        for span in over:
+            values = [f"{found[span]:.1f}" if span in found else None for found in lines]
+            if any(values):
+                graph.tip(span[0] + 0.5, span[1] + 0.5, span_name(span), values)
+        yield graph
+
+    return graphs(title, said + not_drawn(before, after), BEFORE_AFTER, make)
 
 
 def scores_by_position(before: Sides, after: Sides) -> str:
-    def make(side: str) -> Iterator[Graph]:
-        over = position_spans(before[side], after[side])
-        lines = [means(reads[side], "score_sum", over, 1) for reads in (before, after)]
-        high = max(itertools.chain(*(found.values() for found in lines)), default=0)
-        graph = Graph(side, SCORES, 1, over[-1][1] if over else 1, max(high, 40))
-        graph.mark(20, "Q20")
-        graph.mark(30, "Q30")
-        yield before_after_graph(graph, over, lines)
-
     said = (
         "Mean Phred score of the bases at each position. Position 1 is the first base of the read "
         "(before), and the first base that is left of it (after)."
     )
-    said += not_drawn(before, after)
-    return graphs("Mean score by position", said, BEFORE_AFTER, make)
+    return means_by_position("Mean score by position", said, SCORES, "score_sum", 1, 40, before,
+                             after, (20, 30))
 
 
 def high_scores_by_position(before: Sides, after: Sides) -> str:
-    def make(side: str) -> Iterator[Graph]:
-        over = position_spans(before[side], after[side])
-        lines = [means(reads[side], "q30_bases", over, 100) for reads in (before, after)]
-        graph = Graph(side, HIGH_SCORES, 1, over[-1][1] if over else 1, 100)
-        yield before_after_graph(graph, over, lines)
-
     said = (
         "Share of the bases at each position that have a score of 30 or more. It says more than "
         "the mean if the machine writes only a few scores."
     )
-    said += not_drawn(before, after)
-    return graphs("Bases with Q30 or more by position", said, BEFORE_AFTER, make)
+    return means_by_position("Bases with Q30 or more by position", said, HIGH_SCORES, "q30_bases",
+                             100, 100, before, after)
 
 
 def letters_graph(side: str, when: str, reads: Reads, names: Sequence[str]) -> Graph:
