@@ -59,10 +59,10 @@ $(shown "$log")"
   if [ -n "$functions" ]; then echo "$crate: $functions functions proved ($((SECONDS - begun)) s)"; fi
 }
 
-# beside COUNT WORDS..: proves these crates in a copy, in the background, with COUNT jobs
+# beside COUNT NICENESS WORDS..: proves these crates in a copy, in the background, with COUNT jobs
 beside() {
-  local count=$1 word copy=$room/copy${#helpers[@]}
-  shift
+  local count=$1 niceness=$2 word copy=$room/copy${#helpers[@]}
+  shift 2
   mkdir "$copy" "$copy/.git"
   tar -c --exclude=out --exclude=must-fail --exclude=wrong-bodies crates crates.txt HANDLES | tar -x -C "$copy"
   (
@@ -71,7 +71,7 @@ beside() {
       case $word in
         after:*) until [ -e "$room/${word#after:}" ]; do sleep 1; done ;;
         *)
-          if ! prove "$copy" "$word" rt lib --jobs "$count"; then
+          if ! prove "$copy" "$word" nice -n "$niceness" rt lib --jobs "$count"; then
             echo "$word" > "$room/failed"
             exit 1
           fi
@@ -89,12 +89,13 @@ not_built() {
 }
 
 echo "Proves ${#chain[@]} libraries and the program: 11 to 37 minutes on four processors, if nothing is kept of earlier builds."
-# What reports need takes as long as what the chain proves at the same time.
+# What reports need takes as long as what the chain proves at the same time. For the threads' crates
+# the chain doesn't wait, so they must not slow it down.
 if [ "$processors" -ge 4 ]; then
-  beside 1 "${threads[@]}" fq_law_in_step
-  beside "$report_jobs" "${reports[@]}"
+  beside 1 10 "${threads[@]}" fq_law_in_step
+  beside "$report_jobs" 0 "${reports[@]}"
 else
-  beside 1 "${threads[@]}" "${reports[@]}" fq_law_in_step
+  beside 1 0 "${threads[@]}" "${reports[@]}" fq_law_in_step
 fi
 for crate in "${chain[@]}"; do
   [ ! -e "$room/failed" ] || not_built
