@@ -44,6 +44,13 @@ for each in bgzip:tabix pigz:pigz igzip:isal gzip:gzip; do
   as_plain p1.fq u1.fq p2.fq u2.fq log
 done
 
+row='compressing at --level 1'
+if has igzip isal; then
+  made "${both[@]}" "${outputs[@]}" --report out/report --level 1 "${last[@]}"
+  as_plain p1.fq u1.fq p2.fq u2.fq
+  [ "$(od -An -tx1 -j 3 -N 1 "$work/out/p1.fq.gz")" = ' 00' ] || fail 'not by igzip'
+fi
+
 row='what compresses by default'
 made "${both[@]}" "${rest[@]}"
 first=$(od -An -tx1 -j 12 -N 2 "$work/out/p1.fq.gz")
@@ -355,6 +362,7 @@ if [ -w /dev/full ]; then
   fi
   if has igzip isal; then
     full 'tibzharuk: cannot write data/full.gz: write error: No space left on device' --compressor igzip
+    full 'tibzharuk: cannot write data/full.gz: write error: No space left on device' --level 1
   fi
   tools=$work/bin
   full 'tibzharuk: cannot write data/full.gz: stdout: No space left on device'

@@ -233,13 +233,22 @@ class TestTools(Pieces):
         got = [int(each.compress(role)[-1]) for role in ("paired2", "unpaired1", "interleaved")]
         assert got == [paired, unpaired, each.threads]
 
-    @pytest.mark.parametrize("compressor, alone, beside", (
-            ("bgzip", 4, 3), ("igzip", 2, 2), ("pigz", 6, 6), ("gzip", 6, 6)))
-    def test_level_beside_cutadapt(self, compressor, alone, beside):
-        each = tools.Tools.__new__(tools.Tools)
-        each.compressor = compressor
-        got = [each.usual_level(is_beside) for is_beside in (False, True)]
-        assert got == [alone, beside]
+    @pytest.mark.parametrize("name, level, installed, chosen", (
+        ("auto", None, "igzip bgzip pigz", ("bgzip", 3)),
+        ("auto", 1, "igzip bgzip pigz", ("igzip", 2)),
+        ("auto", 1, "bgzip pigz", ("bgzip", 1)),
+        ("auto", 2, "igzip bgzip pigz", ("bgzip", 2)),
+        ("auto", 9, "pigz", ("pigz", 9)),
+        ("auto", None, "pigz", ("pigz", 6)),
+        ("auto", None, "igzip", ("gzip", 6)),
+        ("auto", 1, "", ("gzip", 1)),
+        ("igzip", 1, "igzip", ("igzip", 1)),
+        ("igzip", None, "igzip", ("igzip", 2)),
+        ("bgzip", 1, "igzip bgzip", ("bgzip", 1)),
+    ))
+    def test_compressors(self, name, level, installed, chosen, monkeypatch):
+        monkeypatch.setattr(tools, "which", lambda name: name if name in installed else None)
+        assert tools.Tools.choose_compressor(name, level) == chosen
 
 
 @pytest.mark.parametrize("text, count", (

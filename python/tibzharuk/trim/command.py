@@ -95,10 +95,10 @@ OPTIONS
                            to try settings. The report and a warning say so
     -t N, --threads N      threads, 1 to 64 (as many as there are processors)
     --compressor NAME      bgzip, pigz, gzip or igzip (auto: the first of bgzip,
-                           pigz and gzip that is installed)
+                           pigz and gzip that is installed, and for --level 1
+                           igzip before these)
     --level N              how hard to compress: 1 is fast, 9 makes small files
-                           (bgzip 4, or 3 with cutadapt; igzip 2, and at most 3;
-                           the others 6)
+                           (bgzip 3; igzip 2, and at most 3; the others 6)
     --compress-threads N   threads for each compressed output, 1 to 64 (see
                            below)
     --decompressor NAME    bgzip or gzip (auto: bgzip if it is installed)

@@ -37,7 +37,6 @@ class Run:
         self.sides, self.outputs = look_at_files(arguments, self.tools)
         if arguments.asks_auto():
             take_adapters(arguments, self.sides)
-            self.tools = Tools(arguments)   # how hard to compress depends on whether cutadapt runs
         self.cutadapt: Optional[Cutadapt] = None
         if arguments.uses_cutadapt():
             self.cutadapt = Cutadapt(arguments, self.sample)

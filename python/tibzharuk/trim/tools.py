@@ -19,15 +19,13 @@ DECOMPRESSORS = ("bgzip", "gzip")
 
 Command = Callable[[int, int], List[str]]
 COMPRESSORS: Dict[str, Tuple[int, Command]] = {  # the level without --level, and the arguments
-    "bgzip": (4, lambda level, threads: ["bgzip", "-c", "-l", str(level), "-@", str(threads)]),
+    "bgzip": (3, lambda level, threads: ["bgzip", "-c", "-l", str(level), "-@", str(threads)]),
     "igzip": (
         2, lambda level, threads: ["igzip", "-c", "-n", f"-{min(level, 3)}", "-T", str(threads)]),
     "pigz": (6, lambda level, threads: ["pigz", "-n", f"-{level}", "-p", str(threads)]),
     "gzip": (6, lambda level, threads: ["gzip", "-n", f"-{level}"]),
 }
-# The level beside cutadapt, which needs the processors: level 3 takes 0.6 of level 4's time, and
-# its files are 0.8 % larger.
-BESIDE_CUTADAPT = {"bgzip": 3}
+FASTEST = "igzip"   # for --level 1: it takes at most 0.6 of the time of bgzip's
 # What bgzip prints for a damaged file, and gzip's words for it.
 GZIP_WORDS = (
     ("hread returned -1", "read error"),
@@ -70,11 +68,10 @@ class Tools:
     """The compressor and the decompressor of a run, and their threads."""
 
     def __init__(self, arguments: "Arguments") -> None:
-        self.compressor = self.choose_compressor(arguments.compressor)
+        self.compressor, self.level = self.choose_compressor(arguments.compressor, arguments.level)
         # No faster compressor than gzip is installed.
         self.is_slow = arguments.compressor == "auto" and self.compressor == "gzip"
         self.decompressor = self.choose_decompressor(arguments.decompressor)
-        self.level = arguments.level or self.usual_level(arguments.uses_cutadapt())
         self.threads = processors()
         if arguments.threads and re.match("[1-9][0-9]?$", arguments.threads):
             self.threads = int(arguments.threads)
@@ -82,12 +79,15 @@ class Tools:
         self.compress_threads = arguments.compress_threads
 
     @staticmethod
-    def choose_compressor(name: str) -> str:
-        if name == "auto":
-            return next((name for name in ("bgzip", "pigz") if which(name)), "gzip")
-        if not which(name):
+    def choose_compressor(name: str, level: Optional[int]) -> Tuple[str, int]:
+        """The compressor and its level."""
+        if name == "auto" and level == 1 and which(FASTEST):
+            name, level = FASTEST, None
+        elif name == "auto":
+            name = next((name for name in ("bgzip", "pigz") if which(name)), "gzip")
+        elif not which(name):
             raise Fault(1, f"no program {name} (--compressor)")
-        return name
+        return name, level or COMPRESSORS[name][0]
 
     @staticmethod
     def choose_decompressor(name: str) -> str:
@@ -96,10 +96,6 @@ class Tools:
         if not which(name):
             raise Fault(1, f"no program {name} (--decompressor)")
         return name
-
-    def usual_level(self, is_beside_cutadapt: bool) -> int:
-        level = COMPRESSORS[self.compressor][0]
-        return BESIDE_CUTADAPT.get(self.compressor, level) if is_beside_cutadapt else level
 
     def compress(self, role: str) -> List[str]:
         """The command that compresses the output of this role. Both paired outputs share all
