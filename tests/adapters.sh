@@ -10,43 +10,12 @@ set -uo pipefail
 . "$(dirname "$0")/common.bash"
 need cutadapt
 find_program
-trim=("$tibzharuk" trim)
-work=$(mktemp -d) || exit 1
-trap 'rm -rf "$work"' EXIT
-cd "$work" || exit 1
+. tests/trim/calls.bash
 mkdir plain
 python3 "$tree/tests/adapters/draw.py" || exit 1
 gzip -1 -k ./*.fq
 steps=(LEADING:3 SLIDINGWINDOW:4:15 MINLEN:36)
 outputs=(--paired1 out/p1.fq --unpaired1 out/u1.fq --paired2 out/p2.fq --unpaired2 out/u2.fq)
-truseq=(AGATCGGAAGAGCACACGTCTGAACTCCAGTCA AGATCGGAAGAGCGTCGTGTAGGGAAAGAGTGT)
-
-# trimmed WORDS..: a call of the script; its output, its lines and its status are kept
-trimmed() {
-  rm -rf out
-  mkdir out
-  "${trim[@]}" --program "$program" "$@" > printed 2> told
-  echo "$?" > status
-}
-
-# made LINE WORDS..: all outputs are made, and standard error has this line or none
-made() {
-  local line=$1
-  shift
-  trimmed "$@"
-  [ "$(cat status)" -eq 0 ] || fail "status $(cat status)"
-  [ "$(cat told)" = "$line" ] || fail "it says '$(cat told)', not '$line'"
-}
-
-# refused STATUS LINE WORDS..: nothing is made, and one line says why
-refused() {
-  local status=$1 line=$2
-  shift 2
-  trimmed "$@"
-  [ "$(cat status)" -eq "$status" ] || fail "status $(cat status), not $status"
-  [ "$(cat told)" = "tibzharuk: $line" ] || fail "it says '$(cat told)', not '$line'"
-  [ -z "$(ls -A out)" ] || fail "outputs: $(ls -A out)"
-}
 
 # as_plain: the reads are those of the files in `plain`
 as_plain() {

@@ -8,11 +8,7 @@
 set -uo pipefail
 . "$(dirname "$0")/common.bash"
 find_program
-script=$tree/python/tibzharuk/__main__.py
-work=$(mktemp -d) || exit 1
-trap 'rm -rf "$work"' EXIT
-cd "$work" || exit 1
-truseq=(AGATCGGAAGAGCACACGTCTGAACTCCAGTCA AGATCGGAAGAGCGTCGTGTAGGGAAAGAGTGT)
+. tests/trim/calls.bash
 nextera=(CTGTCTCTTATACACATCT CTGTCTCTTATACACATCT)
 
 # draw NAME FIRST LAST TENTHS FORWARD REVERSE: these pairs of 60 bases in NAME_1.fq and NAME_2.fq. So
@@ -27,23 +23,6 @@ draw() {
       for (i = 0; i < length(bases); i++) scores = scores (i < 55 ? "I" : "#")
       printf "@r%d %d:N:0:ACGT\n%s\n+\n%s\n", k, side, bases, scores > name "_" side ".fq"
     } }'
-}
-
-# trimmed WORDS..: a run in a new directory `out`; its status and what it prints are kept
-trimmed() {
-  rm -rf out
-  mkdir out
-  "$script" trim --program "$program" "$@" > printed 2> told
-  echo "$?" > status
-}
-
-# made LINES WORDS..: the run ends well, and these are all lines on standard error
-made() {
-  local lines=$1
-  shift
-  trimmed "$@"
-  [ "$(cat status)" -eq 0 ] || fail "status $(cat status): $(cat told)"
-  [ "$(cat told)" = "$lines" ] || fail "it says '$(cat told)', not '$lines'"
 }
 
 # field NAME: a field of the report
@@ -84,7 +63,7 @@ is warnings "[\"$alike\", \"30 % $holds\", \"all pairs were dropped\"]"
 
 row='the sum of two runs that warned of the same'
 made "tibzharuk: warning: 30 % $holds" -1 truseq_1.fq -2 truseq_2.fq --out out/s "${steps[@]}"
-"$script" sum one.json out/s.json > sum.json || fail "status $?"
+"$tibzharuk" sum one.json out/s.json > sum.json || fail "status $?"
 mv sum.json out/s.json
 is warnings "[\"30 % $holds\"]"
 
@@ -138,26 +117,18 @@ same '' -1 plain_1.fq.gz -2 plain_2.fq --out out/s "${steps[@]}"
 
 row='a sum of runs for which auto took others'
 sed 's/"adapters_auto":"none"/"adapters_auto":"truseq"/' none.json > taken.json
-"$script" sum none.json taken.json > sum.json 2> told
+"$tibzharuk" sum none.json taken.json > sum.json 2> told
 [ $? -eq 1 ] || fail 'the status is not 1'
 [ "$(cat told)" = 'tibzharuk sum: taken.json: adapters_auto is truseq, not none' ] || fail "it says $(cat told)"
-
-# refused STATUS LINE WORDS..: nothing is made, and one line says why
-refused() {
-  trimmed "${@:3}" "${steps[@]}"
-  [ "$(cat status)" -eq "$1" ] || fail "status $(cat status), not $1"
-  [ "$(cat told)" = "tibzharuk: $2" ] || fail "it says '$(cat told)', not '$2'"
-  [ -z "$(ls -A out)" ] || fail "outputs: $(ls -A out)"
-}
 
 row='auto: a pipe'
 mkfifo pipe
 refused 2 '--adapters auto looks at the first pairs, but pipe is not a file: name the adapters' -1 plain_1.fq pipe -2 plain_2.fq plain_2.fq.gz \
-  --out out/s --adapters auto
+  --out out/s --adapters auto "${steps[@]}"
 row='auto: records that are not of four lines'
 sed 's/^.\{20\}/&\n/' plain_1.fq > wrapped_1.fq
 refused 3 "--adapters auto: the first records of wrapped_1.fq, plain_2.fq aren't of four lines (seqtk seq makes it so)" -1 wrapped_1.fq -2 plain_2.fq \
-  --out out/s --adapters auto
+  --out out/s --adapters auto "${steps[@]}"
 row='auto: a damaged file'
 head -c 500 truseq_1.fq.gz > cut_1.fq.gz
 trimmed -1 cut_1.fq.gz -2 truseq_2.fq --out out/s --adapters auto "${steps[@]}"
@@ -205,7 +176,7 @@ $only 7)" -1 truseq_1.fq -2 truseq_2.fq --out out/s --pairs 7 "${steps[@]}"
 grep -qF '<p>30 % '"$holds"'</p><p>only the first pairs were trimmed (--pairs 7)</p>' out/s.html || fail 'the page does not begin with it'
 grep -qF 'Only the first 7 pairs were taken. Read pairs were trimmed' out/s.html || fail 'the text for the methods section does not say so'
 row='a sum of a run over the first pairs'
-"$script" sum out/s.json > sum.json 2> told
+"$tibzharuk" sum out/s.json > sum.json 2> told
 [ $? -eq 1 ] || fail 'the status is not 1'
 [ "$(cat told)" = 'tibzharuk sum: out/s.json: its run took only the first pairs (--pairs)' ] || fail "it says $(cat told)"
 row='more pairs than there are'
@@ -218,7 +189,7 @@ row='the first pairs, before a fault and after it'
 } > strange_1.fq
 trimmed -1 strange_1.fq -2 plain_2.fq --out out/s --pairs 200 "${steps[@]}"
 [ "$(cat status)" -eq 0 ] || fail "status $(cat status): $(cat told)"
-refused 3 'input: forward record 201: NoTitle: strange_1.fq: the record does not begin with @' -1 strange_1.fq -2 plain_2.fq --out out/s --pairs 201
+refused 3 'input: forward record 201: NoTitle: strange_1.fq: the record does not begin with @' -1 strange_1.fq -2 plain_2.fq --out out/s --pairs 201 "${steps[@]}"
 row='the first pairs of an endless pipe'
 mkfifo endless_1 endless_2
 for side in 1 2; do
@@ -260,13 +231,13 @@ summed out
 
 row='checksums that are refused'
 refused 1 '--checksums writes PREFIX.sha256, so it needs --out PREFIX' -1 plain_1.fq -2 plain_2.fq --paired1 out/p1 --paired2 out/p2 --no-unpaired \
-  --checksums
-refused 1 '--checksums: no output is a file' -1 plain_1.fq -2 plain_2.fq --out out/s --interleaved - --no-unpaired --no-report --checksums
-refused 2 'out/s.sha256 is given for two outputs' -1 plain_1.fq -2 plain_2.fq --out out/s --checksums --summary out/s.sha256
+  --checksums "${steps[@]}"
+refused 1 '--checksums: no output is a file' -1 plain_1.fq -2 plain_2.fq --out out/s --interleaved - --no-unpaired --no-report --checksums "${steps[@]}"
+refused 2 'out/s.sha256 is given for two outputs' -1 plain_1.fq -2 plain_2.fq --out out/s --checksums --summary out/s.sha256 "${steps[@]}"
 row='checksums of a run that fails'
 head -c 500 plain_1.fq.gz > short_1.fq.gz
 ln link/s.sha256 kept
-refused 3 'cannot read short_1.fq.gz: unexpected end of file' -1 short_1.fq.gz -2 plain_2.fq --out out/s --checksums
+refused 3 'cannot read short_1.fq.gz: unexpected end of file' -1 short_1.fq.gz -2 plain_2.fq --out out/s --checksums "${steps[@]}"
 trimmed -1 short_1.fq.gz -2 plain_2.fq --out link/s --checksums "${steps[@]}"
 [ link/s.sha256 -ef kept ] || fail 'the earlier file is gone'
 
@@ -281,8 +252,8 @@ trimmed -1 plain_1.fq -2 plain_2.fq --out out/s LEADNG:3
 [ "$(cat status)" -eq 2 ] || fail "status $(cat status), not 2"
 grep -qxF 'tibzharuk: LEADNG:3 is no step; did you mean LEADING:3?' told || fail "it says $(cat told)"
 steps=(MINLEN:36 --sync)
-refused 1 '--sync comes after the steps; options come before them (tibzharuk trim --help)' -1 plain_1.fq -2 plain_2.fq --out out/s
+refused 1 '--sync comes after the steps; options come before them (tibzharuk trim --help)' -1 plain_1.fq -2 plain_2.fq --out out/s "${steps[@]}"
 steps=(minlen:36)
-refused 1 'minlen:36 is not an option; did you mean MINLEN:36? (tibzharuk trim --help)' -1 plain_1.fq -2 plain_2.fq --out out/s --sync
+refused 1 'minlen:36 is not an option; did you mean MINLEN:36? (tibzharuk trim --help)' -1 plain_1.fq -2 plain_2.fq --out out/s --sync "${steps[@]}"
 
 finish ok
