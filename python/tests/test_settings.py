@@ -35,6 +35,18 @@ def test_a_file_that_lacks_fields():
     assert tuple(got.values()) == ("fq_prog 2.0.0", *["not recorded"] * 3)
 
 
+@pytest.mark.parametrize("adapters, taken, row", (
+    ("auto", "truseq", "auto, which took truseq"),
+    ("Auto", "none", "auto, which took none"),
+    ("auto", None, "auto"),
+    ("truseq", None, "truseq"),
+    ("auto.fa", "truseq", "auto.fa"),
+))
+def test_what_auto_took(adapters, taken, row):
+    text = "\n".join(["program: a", *settings.settings_lines(STEPS, "", adapters)])
+    assert settings.read_settings(settings.with_taken(text, taken))["adapters"] == row
+
+
 def test_samples_that_were_trimmed_in_two_ways_are_named():
     one, two = "program: a\nsteps: S\noptions: \nadapters: \n", "program: b\nsteps: S\n"
     parts = settings.how_trimmed({"s1": one, "s2": two, "s<3": one})

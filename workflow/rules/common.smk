@@ -41,7 +41,7 @@ config.setdefault("trim_logs", False)
 try:
     check_settings(config, HERE / "schemas" / "config.schema.yaml")
     SAMPLES = read_samples(config["samples"], HERE / "schemas" / "samples.schema.yaml")
-    ADAPTER_FILE = check_adapters(config["adapters"])
+    ADAPTER_FILE = check_adapters(config["adapters"], config["scatter"])
     OPTIONS = shlex.split(config["options"])
     if not IS_FOR_A_JOB:
         try_settings(TIBZHARUK, config, OPTIONS)

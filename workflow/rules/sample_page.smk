@@ -16,9 +16,8 @@ rule sample_page:
     log:
         "logs/pages/{sample}.log",
     params:
-        cutadapt=quoted([f"--cutadapt={ADAPTERS}"]) if ADAPTERS else "",
         lanes=lanes_as_options,
         setup=SETUP,
     threads: 1
     shell:
-        "{params.setup.tibzharuk:q} page --sample {wildcards.sample:q} {params.cutadapt} {params.lanes} {input.report:q} > {output:q} 2> {log:q}"
+        "{params.setup.tibzharuk:q} page --sample {wildcards.sample:q} {params.lanes} {input.report:q} > {output:q} 2> {log:q}"

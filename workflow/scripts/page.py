@@ -25,7 +25,7 @@ sys.path.insert(0, str(PYTHON))
 from tibzharuk.multiqc.counts import MOST_NAMED  # noqa: E402
 from tibzharuk.report.overview import last_line, overview, warnings_of  # noqa: E402
 from tibzharuk.report.reading import Refused, read_report  # noqa: E402
-from tibzharuk.report.settings import how_trimmed  # noqa: E402
+from tibzharuk.report.settings import how_trimmed, with_taken  # noqa: E402
 
 SECTION = """<!--
 id: 'tibzharuk_run'
@@ -36,8 +36,12 @@ plot_type: 'html'
 """
 
 
+# How lines of a log begin that don't say why a job failed.
+NO_FAULTS = ("tibzharuk: warning: ", "tibzharuk: --adapters auto takes ")
+
+
 def telling_line(path):
-    """The last line of a log that isn't empty, or an empty text if all are; None if there is no log.
+    """The last line of a log that may say why its job failed, or an empty text; None if there is no log.
 
     If the program doesn't know an argument, it prints several lines. The first, `error: ..`, says which.
     """
@@ -45,7 +49,8 @@ def telling_line(path):
     try:
         with open(path, encoding="utf-8", errors="replace") as lines:
             for line in lines:
-                telling = line.strip() or telling
+                if not line.startswith(NO_FAULTS):
+                    telling = line.strip() or telling
                 if telling.startswith("error: "):
                     break
     except OSError:
@@ -147,9 +152,10 @@ def below_half(results, reports):
     return parts
 
 
-def settings_of(results, trimmed):
-    """What the jobs wrote of the settings by which they trimmed the samples."""
-    return {name: (results / "summaries" / f"{name}.settings").read_text(encoding="utf-8") for name in trimmed}
+def settings_of(results, reports):
+    """What the jobs wrote of the settings by which they trimmed the samples, with what `adapters: auto` took."""
+    texts = {name: (results / "summaries" / f"{name}.settings").read_text(encoding="utf-8") for name in reports}
+    return {name: with_taken(text, reports[name].get("adapters_auto")) for name, text in texts.items()}
 
 
 def call(command, environment):
@@ -230,12 +236,12 @@ def make_page(results, trimmed, warnings, failed, not_started):
     """Makes the page in a directory of its own, and moves it to its place at the end."""
     samples = len(trimmed) + len(failed) + len(not_started)
     said = [SECTION, f"<p><strong>{len(trimmed)} of {samples} samples</strong> are on this page.</p>"]
-    said += how_trimmed(settings_of(results, trimmed))
     results.mkdir(parents=True, exist_ok=True)
     with tempfile.TemporaryDirectory(prefix=".report.", dir=results) as name:
         room = Path(name)
         (room / "read").mkdir()
         reports = gather(results, trimmed, room / "read")
+        said += how_trimmed(settings_of(results, reports))
         (room / "read" / "run_mqc.html").write_text("\n".join(said) + "\n", encoding="utf-8")
         top = missing_samples(failed, not_started) + warned(results, warnings) + below_half(results, reports)
         top += overview(reports, lambda sample: link(results, sample))

@@ -6,13 +6,14 @@ import os
 import re
 import subprocess
 import sys
+import tempfile
 from pathlib import Path
 
 import jsonschema
 import yaml
 
 sys.path.insert(0, str(Path(__file__).resolve().parents[2] / "python"))
-from tibzharuk.trim.known_adapters import known_adapters, names_of_known
+from tibzharuk.trim.known_adapters import AUTO, known_adapters, names_of_known
 
 COLUMNS = ["sample", "lane", "r1", "r2"]
 # The columns of nf-core's tables that are read, by ours. Without `lane`, lanes are numbered.
@@ -45,19 +46,21 @@ def check_settings(settings, schema_path):
         raise Refused(f"settings: {place + ': ' if place else ''}{message}")
 
 
-def check_adapters(adapters):
+def check_adapters(adapters, scatter):
     """Refuses adapters that are neither a file nor a sequence nor known. Returns the file, or None."""
-    if adapters.lower() in known_adapters():
+    if adapters.lower() == AUTO and scatter == "lanes":
+        raise Refused("settings: adapters: auto looks at the reads of each job, so two lanes of a sample might get others: name them, or set scatter to none")
+    if adapters.lower() in (AUTO, *known_adapters()):
         return None
     if os.path.isfile(adapters):
         return adapters
     if adapters and not re.fullmatch("[ACGTUNRYSWKMBDHVI]+(,[ACGTUNRYSWKMBDHVI]+)?", adapters, re.IGNORECASE):
-        raise Refused(f"settings: adapters: {adapters!r} is neither a file nor a sequence nor {names_of_known()}")
+        raise Refused(f"settings: adapters: {adapters!r} is neither a file nor a sequence nor {AUTO}, {names_of_known()}")
     return None
 
 
-def call_without_reads(command, settings, options):
-    """The call of a job that would trim no reads by these settings, and write nothing."""
+def call_without_reads(command, settings, options, inputs):
+    """The call of a job that trims these inputs by these settings, and writes nothing."""
     words = [command, "trim", "--program", settings["program"], "--threads", str(settings["trim"]["threads"])]
     outputs = ["paired1", "unpaired1", "paired2", "unpaired2", "summary", "report"]
     outputs += ["trimlog"] if settings["trim_logs"] else []
@@ -65,16 +68,18 @@ def call_without_reads(command, settings, options):
         words += ["--adapters", settings["adapters"]]
         outputs += ["cutadapt-report", "cutadapt-log"]
     words += [word for option in outputs for word in (f"--{option}", os.devnull)]
-    return [*words, "-1", os.devnull, "-2", os.devnull, *options, "--", *settings["steps"].split()]
+    return [*words, "-1", inputs[0], "-2", inputs[1], *options, "--", *settings["steps"].split()]
 
 
 def try_settings(command, settings, options):
     """Refuses settings by which no sample can be trimmed: wrong steps or options, or a program that isn't there."""
     try:
-        done = subprocess.run(
-            call_without_reads(command, settings, options),
-            stdout=subprocess.DEVNULL, stderr=subprocess.PIPE, text=True, errors="replace", timeout=300,
-        )
+        # `auto` looks into files only.
+        with tempfile.NamedTemporaryFile() as one, tempfile.NamedTemporaryFile() as two:
+            done = subprocess.run(
+                call_without_reads(command, settings, options, (one.name, two.name)),
+                stdout=subprocess.DEVNULL, stderr=subprocess.PIPE, text=True, errors="replace", timeout=300,
+            )
     except (OSError, subprocess.TimeoutExpired) as why:
         raise Refused(f"settings: they can't be tried: {why}") from why
     if done.returncode != 0:

@@ -4,7 +4,8 @@ page of all samples.
 The file has a line for each field, its name before `: `.
 """
 
-from typing import Dict, List, Mapping
+import re
+from typing import Dict, List, Mapping, Optional
 
 from .texts import shown
 
@@ -18,6 +19,13 @@ def settings_lines(steps: str, options: str, adapters: str) -> List[str]:
     """The lines after that of the program, as a job writes them."""
     given = zip(FIELDS[1:], (steps, options, adapters))
     return [f"{name}: {' '.join(value.splitlines())}" for name, value in given]
+
+
+def with_taken(text: str, taken: Optional[str]) -> str:
+    """The lines of a job with which adapters `auto` took, if it was asked for."""
+    if taken is None:
+        return text
+    return re.sub("(?im)^adapters: auto$", f"adapters: auto, which took {taken}", text)
 
 
 def read_settings(text: str) -> Settings:
