@@ -13,7 +13,8 @@
 #
 # Of the witness: one that is made of nothing. It must be refused by exactly one error
 # (error[private-field]), and one that is made of the error of std by none. That error itself is
-# written as a value only in the files that are named below, where something else stands for it.
+# written as a value only in the files that are named below, where something else stands for it. So
+# a worker that ends at some block as if memory had been refused has nothing to end with.
 #
 # It works in a directory of its own, outside the tree, and needs rt on the path.
 set -uo pipefail
