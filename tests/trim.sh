@@ -281,7 +281,7 @@ row='words that the script refuses'
 refused 1 'tibzharuk: 2 forward files (-1), but 1 reverse files (-2)' -1 data/a1.gz -1 data/b1.gz -2 data/r.gz "${rest[@]}"
 refused 1 'tibzharuk: no input: -1 and -2, or -i (tibzharuk trim --help)' "${rest[@]}"
 refused 1 'tibzharuk: either -i, or -1 and -2' -i data/i.gz "${both[@]}" "${rest[@]}"
-refused 1 'tibzharuk: no --unpaired2 (tibzharuk trim --help)' "${both[@]}" "${outputs[@]:0:6}" "${last[@]}"
+refused 1 'tibzharuk: no --unpaired2; --out PREFIX names it, --no-unpaired leaves it out (tibzharuk trim --help)' "${both[@]}" "${outputs[@]:0:6}" "${last[@]}"
 refused 1 'tibzharuk: --unpaired2 has no value, as -- is an option; a file of that name is ./--' \
   "${both[@]}" "${outputs[@]:0:6}" --unpaired2 "${last[@]}"
 refused 1 'tibzharuk: no steps, such as MINLEN:36 (tibzharuk trim --help)' "${both[@]}" "${outputs[@]}"

@@ -322,7 +322,8 @@ class Arguments:
             raise Fault(1, f"no names for the outputs: --out PREFIX names all {HELP}")
         for role in READS:
             if self.written_as(role) not in self.outputs:
-                raise Fault(1, f"no --{role} {HELP}")
+                left_out = ", --no-unpaired leaves it out" if role.startswith("un") else ""
+                raise Fault(1, f"no --{role}; --out PREFIX names it{left_out} {HELP}")
         if "interleaved" in self.outputs:
             if "paired1" in self.outputs or "paired2" in self.outputs:
                 raise Fault(1, "either --interleaved, or --paired1 and --paired2")
