@@ -20,7 +20,7 @@ trap clean_up EXIT
 # Scripts that need no program, the longest first.
 early=(must_not_compile workflow_page needs builds scripts package pages wrong_bodies rehearsal claims)
 # Scripts that take long begin first.
-first=(workflow_slurm workflow workflow_lanes)
+first=(workflow_slurm workflow workflow_installed workflow_lanes)
 # Scripts that use the same directories of this tree, so each waits for the one before.
 in_turn=(dist container examples cwl)
 # Scripts that wait for a thread to sleep or for a disk: without others beside them.

@@ -117,32 +117,9 @@ same_from_tables() {
   sed -i 's/samples.tsv$/samples.csv/' config/config.yaml
 }
 
-# refused_setting NAME VALUE LINE: a dry run refuses a setting with that line
-refused_setting() {
-  row="a dry run with $1=$2"
-  call 1 --profile profiles/local --dry-run --config trim_logs=False "$1=$2"
-  grep -qF -- "settings: tibzharuk: $3" said || fail "'$3' was not said, but: $(grep -v '^ *File' said | paste -sd' ' | cut -c 1-300)"
-}
-
-# Settings by which no sample can be trimmed are refused before any job starts.
-bad_settings() {
-  refused_setting steps LEADIN:3 'LEADIN:3 is no step; did you mean LEADING:3?'
-  refused_setting options '--encoding phred' 'bad encoding: phred'
-  refused_setting options --frob '--frob is not an option'
-  refused_setting options '--threads 2' '--threads is given twice'
-  refused_setting program none_such 'no program none_such'
-  if command -v cutadapt > /dev/null; then
-    refused_setting options "--cutadapt '--frob'" 'cutadapt: unrecognized arguments: --frob'
-  else
-    echo "$this: a wrong option of cutadapt: skipped: needs cutadapt"
-  fi
-}
-
 new_lab tables
 names_of_files
 bad_tables
-table 's1\tL1\treads/s1_L001_R1.fq.gz\treads/s1_L001_R2.fq.gz\n'
-bad_settings
 new_lab nf_core
 bad_nf_core
 new_lab local
