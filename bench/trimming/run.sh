@@ -6,8 +6,11 @@
 #     bench/trimming/run.sh [MODE] [OPTION]..
 #
 # Modes; without one it prints what --gz and --plain do:
-#     --gz             from .gz to .gz, with and without adapters, at each tool's own level of
-#                      compression and at its fastest
+#     --gz             from .gz to .gz, at each tool's own level of compression and at its fastest,
+#                      and the processor seconds of each program that tibzharuk runs: without
+#                      adapters, with scores in four bins, with real reads, and with adapters
+#     --growth         from .gz to .gz, tibzharuk beside fastp, at 150,000, 1,500,000 and 6,000,000
+#                      pairs
 #     --plain          plain files: a row for each tool
 #     --sets           the program and the loop over all data sets, in memory and on the disk: a row for each set
 #     --threads-time   the processor seconds of each of the program's threads
@@ -22,8 +25,11 @@
 #     --in PLACE       where inputs and outputs are: disk (TMPDIR, or /tmp) or memory (/dev/shm).
 #                      Without it: with --sets both, with --gz memory, else the disk
 #     --program PATH   the program that is measured (crates/fq_prog/out/fq_prog)
+#     --real PREFIX    the real pairs of Debian's package seqprep-data, if it isn't installed: PREFIX_1.fq.gz
+#                      and PREFIX_2.fq.gz, whose scores are Phred+64. They are repeated
 #     --serial PATH    the run on one thread, as bench/trimming/serial.sh builds it (no row without it)
 #     --ours           no other trimmer
+#     --fastp          no other trimmer but fastp, with --gz
 #     --bases N, --bases LEAST-MOST, --bins, --titles, --crlf
 #                      how the reads are simulated, as bench/trimming/pairs.c says (ignored with --sets
 #                      and --settings)
@@ -47,6 +53,8 @@ form=()
 room=
 spent=
 pairs_read=
+real=/usr/share/doc/seqprep/examples/data/multiplex_bad_contam
+only_fastp=''
 
 stop() {
   echo "bench: $*" >&2
@@ -59,7 +67,7 @@ print_help() {
 
 while [ $# -gt 0 ]; do
   case $1 in
-    --gz | --plain | --sets | --threads-time | --memory | --settings)
+    --gz | --growth | --plain | --sets | --threads-time | --memory | --settings)
       mode=${1#--}
       shift
       ;;
@@ -79,12 +87,20 @@ while [ $# -gt 0 ]; do
       program=${2:?}
       shift 2
       ;;
+    --real)
+      real=$(realpath -m "${2:?}")
+      shift 2
+      ;;
     --serial)
       serial=$(realpath "${2:?}")
       shift 2
       ;;
     --ours)
       peers=no
+      shift
+      ;;
+    --fastp)
+      only_fastp=yes
       shift
       ;;
     --beside)
@@ -152,6 +168,29 @@ free_bytes() {
 # draw OPTION..: the inputs, which are in the page cache then.
 draw() {
   "$built/pairs" "$@" "$count" "$forward" "$reverse"
+  look_at_inputs
+}
+
+# draw_real: the inputs, of real pairs, again and again, with scores as Phred+33 and N for an unknown
+# base.
+draw_real() {
+  local file side=1
+  for file in "$forward" "$reverse"; do
+    gzip -dc "${real}_$side.fq.gz" | "$python" -c 'import sys
+lines = sys.stdin.buffer.read().splitlines(keepends=True)
+lines[1::4] = [line.replace(b".", b"N") for line in lines[1::4]]
+shift = bytes(max(each - 31, 33) if each >= 64 else each for each in range(256))
+lines[3::4] = [line.translate(shift) for line in lines[3::4]]
+left = 4 * int(sys.argv[1])
+while left > 0:
+    sys.stdout.buffer.writelines(lines[:left])
+    left -= len(lines)' "$count" > "$file"
+    side=2
+  done
+  look_at_inputs
+}
+
+look_at_inputs() {
   size=$(($(stat -c %s "$forward") + $(stat -c %s "$reverse")))
   sync -f "$room"
   [ "$(cat "$forward" "$reverse" | wc -l)" = $((8 * count)) ] || stop "the inputs aren't whole"
@@ -315,6 +354,8 @@ list_gz_rows() {
   row "tibzharuk$label" 4 "gz_ours $how"
   [ "$peers" = yes ] || return 0
   peer fastp "fastp$label" "gz_fastp $how" 4
+  [[ $how == *fast* ]] || peer fastp 'fastp, its defaults' gz_fastp_usual 4
+  [ -z "$only_fastp" ] || return 0
   peer cutadapt "cutadapt$label" "gz_cutadapt $how" 4
   [[ $how != *adapters* ]] || peer cutadapt "cutadapt -Z, then tibzharuk$label" "gz_two_passes $how" 4
   [[ $how == *fast* ]] || peer TrimmomaticPE "trimmomatic$label" "gz_trimmomatic $how" 4
@@ -341,41 +382,56 @@ print_gz_rows() {
   done
 }
 
-# measure_gz_data TITLE WORDS: both tables over reads that are simulated with these options: each
-# tool's own level, and its fastest
+# measure_gz_data TITLE [adapters]: both tables over the reads that were made: each tool's own level,
+# and its fastest
 measure_gz_data() {
-  # `next` is the level after tibzharuk's own one.
-  local slow word=$2 next=5
-  [ -z "$word" ] || next=4 # its own level is 3 beside cutadapt, and 4 else
+  local slow word=${2-}
   rows=()
-  draw "${form[@]}" ${word:+"--$word"}
   pack_inputs
   list_gz_rows ${word:+"$word"}
-  row "tibzharuk --level $next${word:+, $word}" 4 "gz_ours level$next $word"
+  row "tibzharuk, report and page${word:+, $word}" 4 "gz_ours report $word"
+  row "tibzharuk --level 5${word:+, $word}" 4 "gz_ours level5 $word"
   row "tibzharuk --interleaved -${word:+, $word}" 4 "gz_stream $word"
   slow=${#rows[@]}
   list_gz_rows fast ${word:+"$word"}
   row "tibzharuk --level 2${word:+, $word}" 4 "gz_ours level2 $word"
-  row "tibzharuk --compressor igzip${word:+, $word}" 4 "gz_ours igzip $word"
-  type -P igzip > "$built/found" || unset 'rows[-1]'
   run_rows
   print_gz_rows "$1, each at its own level of compression:" 0 $((slow - 1))
   print_gz_rows "$1, each at its fastest level:" "$slow" $((${#rows[@]} - 1))
+  print_stages ${word:+"$word"}
+  print_stages fast ${word:+"$word"}
   print_same_reads ${word:+"$word"}
+}
+
+# print_stages WORD..: the processor seconds of each program that tibzharuk runs, in one more run, as
+# the kernel counts them for each process. What is left is Python's: the command, and with adapters
+# what hands whole lines to cutadapt.
+print_stages() {
+  local program=$built/stages/fq_prog PATH=$built/stages:$PATH label=''
+  [ $# -eq 0 ] || label=$(printf ', %s' "$@")
+  : > "$room/stages"
+  gz_ours 4 "$@"
+  awk -v label="$label" -v whole="$(cut -d ' ' -f 2 <<< "$spent")" '
+    function said(name, seconds) { return sprintf("%s %.2f (%.0f %%)", name, seconds, 100 * seconds / whole) }
+    { stage[$1] += $2 + $3; left += $2 + $3 }
+    END { left = whole - left
+      count = split("compressing decompressing cutadapt fq_prog cat", names, " ")
+      printf "\nProcessor seconds by stages%s: ", label
+      for (k = 1; k <= count; k++) if (names[k] in stage) printf "%s, ", said(names[k], stage[names[k]])
+      print said("Python", left) }' "$room/stages"
 }
 
 # print_same_reads [adapters]: what the reads that fastp keeps take if they are compressed as
 # tibzharuk does it. The tools don't keep the same reads, so this alone compares how well they
 # compress.
 print_same_reads() {
-  local file bytes=0 level=4
-  [ $# -eq 0 ] || level=3 # adapters: the level beside cutadapt
+  local file bytes=0
   if [ "$peers" = no ] || ! type -P fastp bgzip > "$built/found"; then
     return 0
   fi
   gz_fastp 4 "$@"
   for file in "$out"/*.gz; do
-    bytes=$((bytes + $(gzip -dc "$file" | bgzip -c -l "$level" | wc -c)))
+    bytes=$((bytes + $(gzip -dc "$file" | bgzip -c -l 3 | wc -c)))
   done
   echo
   awk -v bytes="$bytes" -v theirs="$(cat "$out"/*.gz | wc -c)" \
@@ -387,9 +443,42 @@ measure_gz() {
   enter "${place:-memory}"
   echo "From .gz to .gz: $count pairs, $kind; 4 threads; median of $rounds; $(print_machine)"
   echo "tibzharuk is run by $("$python" --version), $python"
-  measure_gz_data 'Without adapters' ''
+  make_stages
+  draw "${form[@]}"
+  measure_gz_data 'Without adapters'
+  draw "${form[@]}" --adapters
   measure_gz_data 'With adapters in a quarter of the pairs' adapters
+  local only_fastp=yes
+  draw "${form[@]}" --bins
+  measure_gz_data 'Scores in four bins, without adapters'
+  if [ -e "${real}_1.fq.gz" ]; then
+    draw_real
+    measure_gz_data 'Real reads, without adapters'
+  else
+    echo "no real reads, ${real}_1.fq.gz: see --real"
+  fi
   print_versions tabix isal trimmomatic fastp cutadapt bbmap adapterremoval
+}
+
+# measure_growth: a row for each number of pairs, whose time and memory are those of all processes
+measure_growth() {
+  local pairs
+  enter "${place:-disk}"
+  make_stages
+  echo "From .gz to .gz, $kind; 4 threads; median of $rounds; $(print_machine)"
+  for pairs in ${asked:-150000 1500000 6000000}; do
+    count=$pairs
+    rows=()
+    draw "${form[@]}"
+    pack_inputs -1
+    rm "$forward" "$reverse"
+    row tibzharuk 4 gz_ours
+    peer fastp fastp gz_fastp 4
+    run_rows
+    print_gz_rows "$count pairs:" 0 1
+    print_stages
+  done
+  print_versions tabix fastp
 }
 
 sets=(
@@ -555,6 +644,7 @@ measure_beside() {
 case $mode in
   all) measure_gz && echo && measure_plain ;;
   gz) measure_gz ;;
+  growth) measure_growth ;;
   plain) measure_plain ;;
   sets) measure_all_sets ;;
   threads-time) measure_threads ;;

@@ -149,10 +149,10 @@ run_adapterremoval() {
 # compression; `adapters`, which are given to it and removed. All reads that are kept are written
 # into files that end in .gz.
 
-# pack_inputs: the simulated files as gzip files of one member, and the adapters in a file
+# pack_inputs [OPTION]: the inputs as gzip files of one member, and the adapters in a file
 pack_inputs() {
-  gzip -n < "$forward" > "$forward.gz" &
-  gzip -n < "$reverse" > "$reverse.gz"
+  gzip -n "$@" < "$forward" > "$forward.gz" &
+  gzip -n "$@" < "$reverse" > "$reverse.gz"
   wait "$!"
   printf '>adapter/1\n%s\n>adapter/2\n%s\n' "${adapters[@]}" > "$room/adapters.fa"
 }
@@ -160,12 +160,27 @@ pack_inputs() {
 # given WORD WORDS..: whether it is among them
 given() { [[ " ${*:2} " == *" $1 "* ]]; }
 
-# gz_ours THREADS [fast | levelN | igzip] [adapters]
+# make_stages: programs in the place of those that tibzharuk runs, which run them under GNU time
+make_stages() {
+  local tool path stage
+  mkdir "$built/stages"
+  for tool in bgzip gzip igzip cutadapt cat fq_prog; do
+    path=$(type -P "$tool") || true
+    [ "$tool" != fq_prog ] || path=$program
+    stage=$tool
+    # shellcheck disable=SC2016  # the inner shell's
+    case $tool in *gzip) stage='$([ "$1" = -dc ] && echo decompressing || echo compressing)' ;; esac
+    [ -z "$path" ] || printf '#!/bin/sh\nexec %s -q -a -o %q -f "%s %%U %%S" %q "$@"\n' "$clock" "$room/stages" "$stage" "$path" > "$built/stages/$tool"
+  done
+  chmod +x "$built/stages"/*
+}
+
+# gz_ours THREADS [fast | levelN | report] [adapters]
 gz_ours() {
   local more=(--threads "$1")
   ! given fast "$@" || more+=(--level 1)
   [[ ${2-} != level* ]] || more+=(--level "${2#level}")
-  ! given igzip "$@" || more+=(--compressor igzip)
+  ! given report "$@" || more+=(--report json --html html)
   ! given adapters "$@" || more+=(--adapters "${adapters[0]},${adapters[1]}")
   timed "$python" "$here/../../python/tibzharuk/__main__.py" trim --program "$program" "${more[@]}" -1 "$forward.gz" -2 "$reverse.gz" \
     --paired1 fp.gz --unpaired1 fu.gz --paired2 rp.gz --unpaired2 ru.gz -- "${steps[@]}"
@@ -194,6 +209,13 @@ gz_fastp() {
   pairs_read=$(($(number_in "$out/json" '"total_reads"') / 2))
 }
 
+# As laboratories call it: it also finds adapters by the overlap of mates, filters reads by their
+# scores and counts duplicates.
+gz_fastp_usual() {
+  timed fastp --thread "$1" -i "$forward.gz" -I "$reverse.gz" -o fp.gz -O rp.gz --unpaired1 fu.gz --unpaired2 ru.gz --json json --html html
+  pairs_read=$(($(number_in "$out/json" '"total_reads"') / 2))
+}
+
 gz_cutadapt() {
   local more=()
   ! given adapters "$@" || more+=(-a "${adapters[0]}" -A "${adapters[1]}")
@@ -205,7 +227,7 @@ gz_cutadapt() {
 # gz_two_passes THREADS [fast] adapters: what a lab does that stores the reads in between, outside
 # the directory of outputs
 gz_two_passes() {
-  local level=4
+  local level=3
   ! given fast "$@" || level=1
   # shellcheck disable=SC2016  # they are the shell's that is started
   timed sh -c 'cutadapt --cores "$1" -a "$2" -A "$3" -Z -o "$4.1.fq.gz" -p "$4.2.fq.gz" "$5" "$6" >/dev/null && shift 3 &&
