@@ -2,7 +2,7 @@
 # tibzharuk trim at the rims of what is usual: standard input as an input, one pipe for both sides,
 # reads of the SRA without a base, Ctrl-Z, files of another user in a sticky directory, signals of
 # every kind, also as the first process of a container before a run has begun, titles beyond ASCII,
-# broken records under adapters, Phred+64, and pairs that are all dropped.
+# broken records under adapters, Phred+64, pairs that are all dropped, and whether it opens a connection.
 # FQ_PROG names another build of the program. A row that is refused here, or whose tool isn't
 # installed, is reported as skipped.
 set -uo pipefail
@@ -44,6 +44,16 @@ warned 'tibzharuk: warning: the scores of data/o1 go up to 71, so its qualities 
 made -1 data/o1 -2 data/o2 "${four[@]}" --encoding illumina13 MINLEN:1
 row='all pairs dropped'
 warned 'tibzharuk: warning: all pairs were dropped' "${both[@]}" "${four[@]}" MINLEN:1000
+row='no connection'
+if ! strace -o "$work/calls" true 2> /dev/null; then
+  echo "$this: skipped: $row: strace is not installed or is refused (apt-get install strace)"
+elif has cutadapt cutadapt; then
+  (cd "$work" && strace -f -qq -e trace=%network -o calls "${trim[@]}" --program "$program" "${both[@]}" --adapters truseq --checksums --out out/s "${last[@]}") \
+    > "$work/printed" 2> "$work/told" || fail "status $?: $(cat "$work/told")"
+  ! grep AF_INET "$work/calls" || fail 'it opens a connection'
+  rm "$work"/out/s.*
+fi
+
 row='a directory as a prefix'
 for each in . .. out/. out/; do
   refused 1 "tibzharuk: --out $each is a directory; the names need a beginning, too" "${both[@]}" --out "$each" "${last[@]}"
