@@ -124,8 +124,8 @@ same_as_direct() {
 }
 
 # counted REPORT: a report without the names of its files, and without the field by which
-# tibzharuk trim says that no adapters were looked for, and without warnings
-counted() { sed 's/^{"adapters":null,/{/; s/,"warnings":\[[^]]*\]}$/}/; s/"inputs":{[^}]*}//; s/"outputs":{[^}]*}//' "$1"; }
+# tibzharuk trim says that no adapters were looked for, or that it found none, and without warnings
+counted() { sed 's/^{"adapters":null,\("adapters_auto":"none",\)\?/{/; s/,"warnings":\[[^]]*\]}$/}/; s/"inputs":{[^}]*}//; s/"outputs":{[^}]*}//' "$1"; }
 
 # same_logs SAMPLES..: their trim logs are those of direct calls
 same_logs() {
