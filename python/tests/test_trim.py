@@ -366,7 +366,7 @@ class TestReport(Pieces):
         outputs = {field: f"/dev/fd/{number}" for number, field in enumerate(report.OUTPUTS)}
         inputs = {"interleaved": "/dev/fd/5"}
         said = {"command": "IL", "inputs": inputs, "outputs": outputs, "pairs": 1}
-        text = report.of_call(said, arguments.Arguments(words), None)
+        text = report.of_call(said, arguments.Arguments(words), None, {})
         return json.loads(text.decode())
 
     def test_names(self):
@@ -377,7 +377,8 @@ class TestReport(Pieces):
         assert got["inputs"] == {"forward": ["a", "b"], "reverse": ["c", "d"]}
         wanted = dict(zip(report.OUTPUTS, ("p1", "u1", "p2", "u2", None)))
         assert got["outputs"] == wanted
-        assert list(got) == ["adapters", "command", "inputs", "outputs", "pairs", "warnings"]
+        assert list(got) == [
+            "adapters", "command", "inputs", "outputs", "pairs", "provenance", "warnings"]
         assert (got["adapters"], got["warnings"]) == (None, [])
         assert "first_pairs" not in got
         got = self.names(["-i", "\udcff.gz", "--trimlog", "log", "--interleaved", "-"] + unpaired)
@@ -396,7 +397,7 @@ class TestReport(Pieces):
         counts = {"pairs": {"input": read - (removed or 0)}, "outputs": {}}
         adapters = None if removed is None else {"pairs_read": read}
         given = arguments.Arguments(["-i", "a", "--pairs", pairs])
-        assert json.loads(report.of_call(counts, given, adapters)).get("first_pairs") == wanted
+        assert json.loads(report.of_call(counts, given, adapters, {})).get("first_pairs") == wanted
 
 
 class TestFiles(Pieces):

@@ -242,7 +242,7 @@ def test_notes(steps, ends):
 
 def test_what_out_adds():
     words = f"-phred33 {FILES} --out s --checksums CROP:9".split()
-    assert arguments_of(translated(words)).outputs == {
+    assert arguments_of(words, translated(words)).outputs == {
         "paired1": "p1", "unpaired1": "u1", "paired2": "p2", "unpaired2": "u2",
         "report": "s.json", "html": "s.html", "checksums": "s.sha256"}
 

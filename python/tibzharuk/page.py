@@ -8,9 +8,9 @@ graphs are drawn inside the page as SVG. Hold the mouse over a graph to see its
 numbers. The page follows the reader's light or dark setting, and prints on A4.
 
 The page shows what became of the pairs, both sides before and after trimming,
-what each step did, the reads by length, a text for the methods section, and the
-files. If the report has counts by position, reads by mean score, reads by G and
-C or reads by removed bases, the page draws them too.
+what each step did, the reads by length, a text for the methods section, the
+files, and how the run was made. If the report has counts by position, reads by
+mean score, reads by G and C or reads by removed bases, the page draws them too.
 
 If each lane of a sample was trimmed by itself, tibzharuk sum adds up their
 reports. With --lane the page of the sum shows the lanes beside each other.

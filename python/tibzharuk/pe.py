@@ -59,9 +59,10 @@ STARTED = "tibzharuk, in place of TrimmomaticPE: Started with arguments:\n "
 COMPLETED = "tibzharuk, in place of TrimmomaticPE: Completed successfully\n"
 
 
-def arguments_of(line: Line) -> Arguments:
+def arguments_of(words: Sequence[str], line: Line) -> Arguments:
     """The arguments of the run, whose summary has Trimmomatic's forms."""
     arguments = Arguments(line.words)
+    arguments.call = ["PE", *words]
 
     def forms(summary: str) -> Tuple[bytes, bytes]:
         printed = "" if line.is_quiet else line_of(summary) + COMPLETED
@@ -83,7 +84,7 @@ def main(words: Sequence[str]) -> int:
 
     def by_line() -> None:
         line = translated(words)
-        arguments = arguments_of(line)
+        arguments = arguments_of(words, line)
         if not line.is_quiet:
             say(" ".join(words), STARTED)
             if line.encoding:

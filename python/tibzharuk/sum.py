@@ -5,8 +5,9 @@
 If each lane of a sample is trimmed by itself, and the outputs of the lanes are
 joined in order, they have the reads of one run over all lanes. The sum has the
 counts that the report of that run would have. It names the inputs of all
-REPORTs, in their order, and has the warnings of all, each once. It names the
-outputs that are given here, or otherwise those of all REPORTs.
+REPORTs, in their order, and has the warnings of all, each once, and how each
+run was made. It names the outputs that are given here, or otherwise those of
+all REPORTs.
 
 The REPORTs must be of the same version, steps and settings, and of runs that
 read their inputs to the end, without --pairs, each of another lane. Otherwise
@@ -42,8 +43,8 @@ OUTPUTS = {
 # What must be the same in all reports. Some have no `schema`, and some no `adapters_auto`.
 SAME = ("schema", "program", "version", "command", "encoding", "name_check", "adapters_auto")
 ADDED = (
-    "adapters", "inputs", "outputs", "outcome", "fault", "pairs", "reads", "steps", "through",
-    "warnings")
+    "adapters", "inputs", "outputs", "outcome", "fault", "pairs", "provenance", "reads", "steps",
+    "through", "warnings")
 SUMMARY = {
     "input": "Input Read Pairs",
     "both_surviving": "Both Surviving",
@@ -75,8 +76,8 @@ def must_match(path: str, report: Report, first: Report) -> None:
 
 def is_same_lane(report: Report, other: Report) -> bool:
     """Whether two reports are of the same inputs, with the same counts of some pairs: the outputs
-    may have other names."""
-    names = (set(report) | set(other)) - {"outputs"}
+    may have other names, and another call may have made them."""
+    names = (set(report) | set(other)) - {"outputs", "provenance"}
     same = all(report.get(name) == other.get(name) for name in names)
     return same and report["pairs"]["input"] > 0
 
@@ -106,6 +107,10 @@ def all_names(first: Any, second: Any) -> List[str]:
     """The names of two reports, each of which has one or a list."""
     lists = [names if isinstance(names, list) else [names] for names in (first, second)]
     return lists[0] + lists[1]
+
+
+def each_once(items: List[Any]) -> List[Any]:
+    return [item for place, item in enumerate(items) if item not in items[:place]]
 
 
 def added_names(first: Dict[str, Any], second: Dict[str, Any]) -> Dict[str, Any]:
@@ -143,9 +148,9 @@ def added(first: Report, second: Report) -> Report:
     if "adapters" in first or "adapters" in second:
         both_of = (report.get("adapters") for report in (first, second))
         of_trim["adapters"] = added_adapters(*both_of)
-    for name in "warnings", "through":
+    for name in "warnings", "through", "provenance":
         if name in first or name in second:
-            of_trim[name] = list(dict.fromkeys(first.get(name, []) + second.get(name, [])))
+            of_trim[name] = each_once(first.get(name, []) + second.get(name, []))
     return dict(
         first,
         **of_trim,

@@ -20,7 +20,8 @@ TREE = os.path.dirname(os.path.dirname(os.path.dirname(os.path.abspath(__file__)
 READS = ("forward_paired", "forward_unpaired", "reverse_paired", "reverse_unpaired")
 PAIRS = ("input", "both_surviving", "forward_only_surviving", "reverse_only_surviving", "dropped")
 PARTS = ("before", "paired", "unpaired")
-OPTIONAL = ({"adapters"}, {"adapters_auto"}, {"first_pairs"}, {"through"}, {"warnings"})
+OPTIONAL = ({"adapters"}, {"adapters_auto"}, {"first_pairs"}, {"provenance"}, {"through"},
+            {"warnings"})
 wrong = []
 
 
@@ -146,6 +147,12 @@ def of_command(report):
     several["adapters_auto"] = "none"
     several["first_pairs"] = 5
     several["through"] = ["bwa mem -p genome.fa -"]
+    several["provenance"] = [{
+        "call": ["trim", "-1", "f"],
+        "fq_prog_sha256": 64 * "0",
+        "inputs": [{"bytes": 5, "name": "f", "sha256": 64 * "a"}],
+        "programs": {"python": "3.11.2", "tibzharuk": "2.0.0"},
+    }]
     several["warnings"] = ["f may be cut", "all pairs were dropped"]
     several["adapters"] = {
         "program": "cutadapt",

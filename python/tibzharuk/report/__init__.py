@@ -7,6 +7,7 @@
     sections    the other sections
     adapters    the section on adapters
     lanes       the tables of lanes
+    provenance  how each run was made
     page        the whole page
     style.css   how it looks
     settings    how the workflow trimmed a sample

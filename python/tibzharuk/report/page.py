@@ -7,6 +7,7 @@ from .reading import SIDES, Report, both
 from .adapters import adapter_table, how_removed
 from .drawings import drawings
 from .lanes import Lanes, lane_tables
+from .provenance import provenance
 from .sections import cards, pair_bar, run, side_table, step_table, warnings
 from .texts import shown
 
@@ -42,6 +43,7 @@ def page(report: Report, sample: str, cutadapt: str = "", lanes: Lanes = ()) -> 
         step_table(report["steps"], before),
         *drawings(report, before, after),
         run(report, adapters),
+        provenance(report),
         "<footer>Made by tibzharuk from a report of its run, "
         "which has all numbers of this page.</footer>",
     ]

@@ -82,6 +82,12 @@ def names(value: Any, place: str) -> None:
         need(good, f"{place}.{name}", "is neither a name nor a list of names")
 
 
+def texts(value: Any, place: str) -> None:
+    need(isinstance(value, dict), place, "is not an object")
+    for name, given in value.items():
+        text(given, f"{place}.{name}")
+
+
 def rows(most: int) -> Form:
     """[number, count] for numbers up to `most`, in rising order."""
 
@@ -165,6 +171,14 @@ ADAPTERS = fields(
         **{side: ADAPTERS_SIDE for side in SIDES},
     }
 )
+MADE = fields(
+    {
+        "call": each(text),
+        "fq_prog_sha256": or_null(text),
+        "inputs": each(fields({"name": text, "bytes": or_null(count), "sha256": or_null(text)})),
+        "programs": texts,
+    }
+)
 REPORT = fields(
     {
         "program": text,
@@ -185,6 +199,7 @@ REPORT = fields(
         "adapters": or_null(ADAPTERS),
         "adapters_auto": text,
         "first_pairs": count,
+        "provenance": each(MADE),
         "through": each(text),
         "warnings": each(text),
     },

@@ -265,6 +265,7 @@ class Arguments:
 
     def __init__(self, words: Sequence[str]) -> None:
         found, self.steps = Parser().read(words)    # None: there are none
+        self.call: List[str] = ["trim", *words]     # of the command, as it was typed
         self.dry_run = bool(found.dry_run)
         self.read_too: List[str] = []       # other files that are read
         # The summary in other forms, if not in that of the program: what is printed on standard

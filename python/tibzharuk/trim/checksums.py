@@ -2,8 +2,7 @@
 
 import hashlib
 import os
-from concurrent.futures import ThreadPoolExecutor
-from typing import Sequence
+from typing import List, Sequence
 
 from .faults import Fault
 from .files import Output
@@ -35,16 +34,21 @@ def line_of(checksum: str, name: str) -> bytes:
     return os.fsencode(f"{'' if escaped == name else chr(92)}{checksum}  {escaped}\n")
 
 
-def checksums(outputs: Sequence[Output], name: str) -> bytes:
-    """The lines of these outputs, which still have hidden names, for a file of this name. Several
-    outputs are read at a time."""
-    pool = ThreadPoolExecutor(max(1, len(outputs)))
+def sums_of(names: Sequence[str]) -> List[str]:
+    """The checksums of these files, several of which are read at a time."""
+    from concurrent.futures import ThreadPoolExecutor   # what it imports takes longer than the rest
+    pool = ThreadPoolExecutor(max(1, len(names)))
     try:
-        found = list(pool.map(sha256_of, [output.written() for output in outputs]))
+        return list(pool.map(sha256_of, names))
     except RuntimeError:
         raise Fault(6, "cannot start the threads that make checksums")
     finally:
         pool.shutdown(wait=False)   # a signal doesn't wait for their end
+
+
+def checksums(outputs: Sequence[Output], name: str) -> bytes:
+    """The lines of these outputs, which still have hidden names, for a file of this name."""
+    found = sums_of([output.written() for output in outputs])
     folder = os.path.dirname(name)
     return b"".join(line_of(checksum, name_from(folder, output.name))
                     for checksum, output in zip(found, outputs))

@@ -51,7 +51,8 @@ INPUTS AND OUTPUTS
                            PREFIX.r2.unpaired.fastq.gz, PREFIX.json (the report)
                            and PREFIX.html (its page)
     --checksums            PREFIX.sha256 too, with the checksums of all outputs
-                           that are files, for sha256sum -c in its directory
+                           that are files, for sha256sum -c in its directory.
+                           The report then has those of the inputs
     --no-unpaired          unpaired reads go to /dev/null, unless they are named
     --no-report            --out names no report and no page
     --paired1 OUT          forward reads whose mate survives too
@@ -71,7 +72,8 @@ INPUTS AND OUTPUTS
     --summary OUT          the summary, as a file too
     --trimlog OUT          a line for each read (see fq_prog PE --help)
     --report OUT           counts of pairs, reads, bases and steps as JSON, with
-                           the names of these files and what cutadapt removed
+                           the names of these files, what cutadapt removed, and
+                           the call, programs and inputs
     --html OUT             the report as a page for the browser
 
 OPTIONS

@@ -44,13 +44,14 @@ def pairs_read(counts: Dict[str, Any], adapters: Optional[Dict[str, Any]]) -> in
     return found
 
 
-def of_call(counts: Dict[str, Any], arguments: Arguments,
-            adapters: Optional[Dict[str, Any]]) -> bytes:
-    """The program's report as that of the user's call, with what cutadapt removed before, and what
-    was warned of: the program has read and written pipes and hidden files."""
+def of_call(counts: Dict[str, Any], arguments: Arguments, adapters: Optional[Dict[str, Any]],
+            provenance: Dict[str, Any]) -> bytes:
+    """The program's report as that of the user's call, with what cutadapt removed before, what was
+    warned of, and how the run was made: the program has read and written pipes and hidden files."""
     import json
     warnings = [readable(text) for text in warned]
-    report: Dict[str, Any] = {"adapters": adapters, "warnings": warnings, **counts}
+    report: Dict[str, Any] = {
+        "adapters": adapters, "provenance": [provenance], "warnings": warnings, **counts}
     if arguments.adapters_auto:
         report["adapters_auto"] = arguments.adapters_auto
     if arguments.pairs and arguments.pairs == pairs_read(counts, adapters):

@@ -5,7 +5,7 @@ import os
 import re
 import signal
 import time
-from typing import Dict, List, NoReturn, Optional, Sequence, Tuple
+from typing import Any, Dict, List, NoReturn, Optional, Sequence, Tuple
 
 from . import faults, records
 from .arguments import CHECKSUMS, Arguments, HelpAsked
@@ -19,6 +19,7 @@ from .look import files_with_checksums, look_at_files, look_at_reads, take_adapt
 from .plan import (COUNTED, CUTADAPT_COUNTED, CUTADAPT_PRINTED, FLAGS, KEPT, PRINTED, TRIMMED, End,
                    Lane, Made, Start, Stream, Word, counter, lane, plan, shown)
 from .progress import Progress
+from .provenance import ASKED, programs_beside, provenance, sum_of_program, versions
 from .report import counts_of, of_call, page_of, sample_name
 from .tools import Tools, which
 from .verdict import CutadaptEnd, Ends, SideEnd, needs_more, verdict, why_of_command
@@ -47,6 +48,8 @@ class Run:
         self.ends: Dict[str, Ended] = {}
         self.writer: Optional[Fault] = None     # of an output, after the program had written it
         self.without_end: List[str] = []        # inputs that may be cut
+        self.beside: List[str] = []             # programs whose versions the report has
+        self.program_sum: Optional[str] = None
         # What is written at once, and can't be taken back.
         self.streams = [each.name for each in self.outputs.values()
                         if each.is_device and each.name != os.devnull]
@@ -59,7 +62,10 @@ class Run:
         self.pipes = Pipes(self.family)
         try:
             self.start_all()
-            look_at_reads(self.arguments, self.sides)   # the children work meanwhile
+            # The children work meanwhile.
+            look_at_reads(self.arguments, self.sides)
+            if self.makes_report():
+                self.ask_for_versions()
             self.follow()
             self.judge()
             self.finish()
@@ -80,6 +86,9 @@ class Run:
         child = self.family.find("cutadapt")
         if child and self.cutadapt:
             self.cutadapt.watch(child)
+
+    def makes_report(self) -> bool:
+        return "report" in self.outputs or "html" in self.outputs
 
     def has_gz_outputs(self) -> bool:
         return any(output.is_compressed for output in self.outputs.values())
@@ -106,6 +115,16 @@ class Run:
         for start in self.plan():
             self.start(start)
         self.pipes.let_go()
+
+    def ask_for_versions(self) -> None:
+        """Starts the programs beside fq_prog again, which print their versions, and makes the
+        checksum of fq_prog."""
+        self.beside = programs_beside(self.sides, self.outputs, self.tools)
+        nothing = os.open(os.devnull, os.O_RDONLY)  # not our standard input, which may hold reads
+        for name in self.beside:
+            self.family.start(ASKED + name, [name, "--version"], nothing)
+        os.close(nothing)
+        self.program_sum = sum_of_program(self.arguments.program)
 
     def start(self, start: Start) -> None:
         passed = [self.pipes.fd(*word) for word in start.words if isinstance(word, End)]
@@ -300,10 +319,9 @@ class Run:
     def finish(self) -> None:
         """Waits until all bytes are on the disk, gives the files their final names, and prints the
         summary. If it can't be printed, the names are taken back."""
-        while any(self.family.find(role) for role in self.outputs):
+        while any(map(self.family.find, [*self.outputs, *(ASKED + name for name in self.beside)])):
             child = self.family.next_end()
-            if child.name in self.outputs:
-                self.end_writer(self.outputs[child.name], child.ended())
+            self.note_end(child.name, child.ended())
         if self.writer:
             raise self.writer
         if self.arguments.through:
@@ -391,17 +409,34 @@ class Run:
     def own_texts(self) -> Dict[str, bytes]:
         """What this process writes, by its role."""
         texts = {"summary": self.summary()[1]}
-        if "report" in self.outputs or "html" in self.outputs:
+        if self.makes_report():
             is_used = self.cutadapt and self.arguments.removes()
             adapters = self.cutadapt.summary() if self.cutadapt and is_used else None
             counts = counts_of(self.pipes.text(COUNTED))
-            texts["report"] = of_call(counts, self.arguments, adapters)
+            texts["report"] = of_call(counts, self.arguments, adapters, self.provenance())
         if "html" in self.outputs:
             texts["html"] = page_of(texts["report"], self.sample)
         if self.cutadapt:
             texts["cutadapt-report"] = self.cutadapt.report()
             texts["cutadapt-log"] = self.cutadapt.log()
         return {role: text for role, text in texts.items() if role in self.outputs}
+
+    def provenance(self) -> Dict[str, Any]:
+        """How this run was made, as the report says."""
+        inputs = [each for side in self.sides for each in side.inputs]
+        sums: Dict[str, str] = {}
+        if CHECKSUMS in self.outputs:
+            from .checksums import sums_of
+            names = [each.name for each in inputs if each.size is not None]
+            with self.family.heeding_signals():
+                try:
+                    sums = dict(zip(names, sums_of(names)))
+                except OSError as error:
+                    raise Fault(4, f"cannot read {error.filename}: {reason(error)}")
+        said = {name: self.ends[ASKED + name].text() for name in self.beside}
+        cutadapt = self.cutadapt.counted()["cutadapt_version"] if self.cutadapt else None
+        return provenance(self.arguments.call, self.program_sum, versions(said, cutadapt), inputs,
+                          sums)
 
     def write(self, output: Output, text: bytes) -> None:
         try:

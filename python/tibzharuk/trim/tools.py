@@ -64,6 +64,12 @@ def which(name: str) -> Optional[str]:
     return next((each for each in paths if os.path.isfile(each) and os.access(each, os.X_OK)), None)
 
 
+def version_in(text: str) -> str:
+    """The version in what a program prints for --version, or nothing."""
+    found = re.search(r"\b\d+(\.\d+)+\S*", text)
+    return found.group() if found else ""
+
+
 class Tools:
     """The compressor and the decompressor of a run, and their threads."""
 
