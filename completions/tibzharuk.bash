@@ -5,7 +5,7 @@
 # shellcheck disable=SC2034  # the variables are the caller's
 _tibzharuk_known() {
   # made by packaging/made.py: command-for-bash
-  commands='trim PE page sum samples workflow'
+  commands='trim PE page sum samples workflow selftest'
   case $command in
     trim)
       several='-1 -2 -i'
@@ -35,6 +35,11 @@ _tibzharuk_known() {
       ;;
     workflow)
       flags='-h --help'
+      ;;
+    selftest)
+      with_file='--html --json --reads'
+      with_value='--pairs --encoding'
+      flags='-h --help --matrix'
       ;;
   esac
   case $previous in

@@ -20,6 +20,8 @@ function __tibzharuk_valued
             printf '%s\n' --sample --cutadapt --lane
         case sum
             printf '%s\n' --paired1 --unpaired1 --paired2 --unpaired2 --trimlog --summary
+        case selftest
+            printf '%s\n' --html --json --reads --pairs --encoding
     end
 end
 
@@ -111,6 +113,7 @@ complete -c tibzharuk -n __tibzharuk_begins -a page -d 'makes a page for the bro
 complete -c tibzharuk -n __tibzharuk_begins -a sum -d 'adds up reports, such as those of the lanes of a sample'
 complete -c tibzharuk -n __tibzharuk_begins -a samples -d 'prints the table of samples that the workflow reads'
 complete -c tibzharuk -n __tibzharuk_begins -a workflow -d 'prepares a directory for the workflow, which trims many samples'
+complete -c tibzharuk -n __tibzharuk_begins -a selftest -d 'checks this installation, and makes a record of it to be signed'
 complete -c tibzharuk -n '__tibzharuk_wants step trim' -a 'LEADING: TRAILING: SLIDINGWINDOW: CROP: HEADCROP: AVGQUAL: MINLEN: TOPHRED33'
 complete -c tibzharuk -n '__tibzharuk_wants option trim' -s 1 -rF -d 'forward and reverse reads'
 complete -c tibzharuk -n '__tibzharuk_wants option trim' -s 2 -rF -d 'forward and reverse reads'
@@ -209,4 +212,11 @@ complete -c tibzharuk -n '__tibzharuk_wants option sum' -l summary -rF -d 'write
 complete -c tibzharuk -n '__tibzharuk_wants option samples' -s h -l help -d 'show this help message and exit'
 complete -c tibzharuk -n '__tibzharuk_wants option samples' -l by-run -d 'begin the name of each lane with that of its run'
 complete -c tibzharuk -n '__tibzharuk_wants option workflow' -s h -l help -d 'show this help message and exit'
+complete -c tibzharuk -n '__tibzharuk_wants option selftest' -s h -l help -d 'show this help message and exit'
+complete -c tibzharuk -n '__tibzharuk_wants option selftest' -l html -rF -d 'write the record as a page to sign'
+complete -c tibzharuk -n '__tibzharuk_wants option selftest' -l json -rF -d 'write the record as JSON'
+complete -c tibzharuk -n '__tibzharuk_wants option selftest' -l reads -rF -d 'compare the trimming of these reads, forward and reverse, too'
+complete -c tibzharuk -n '__tibzharuk_wants option selftest' -l pairs -x -d 'how many of their first pairs are compared'
+complete -c tibzharuk -n '__tibzharuk_wants option selftest' -l encoding -x -a 'sanger illumina13 solexa' -d 'what their quality bytes are'
+complete -c tibzharuk -n '__tibzharuk_wants option selftest' -l matrix -d 'only print which promise of the documents rests on what'
 # end of command-for-fish

@@ -1,6 +1,7 @@
 #!/usr/bin/env bash
 # Puts the program and the command with its Python package, their manual pages, their completion, the
-# workflow and the plugin of MultiQC below a directory such as /usr/local, or removes them.
+# workflow, the plugin of MultiQC and the reads of tibzharuk selftest below a directory such as
+# /usr/local, or removes them.
 # `make install`, the tarball and the Debian package have all of them by this list. Neither pip nor a
 # network is needed.
 set -euo pipefail
@@ -13,7 +14,8 @@ usage() {
 Installs PROGRAM as DIRECTORY/bin/fq_prog, and the command tibzharuk, whose Python package goes to
 DIRECTORY/PACKAGE (default: share/tibzharuk/python) and is compiled if python3 is installed. The
 workflow is beside it.
-tibzharuk --version then names the Rattle kit that is installed here, as 'rt version' prints it.
+tibzharuk --version then names the Rattle kit that is installed here, as 'rt version' prints it, and
+tibzharuk selftest compares the program with the one that was installed.
 MultiQC finds its plugin by DIRECTORY/lib/python3/dist-packages, which is on Python's path on Debian
 if DIRECTORY is /usr. --remove removes all of these files."
 }
@@ -60,9 +62,15 @@ entries() {
   echo 'program - bin/fq_prog'
   for file in $(files_of python/tibzharuk); do echo "file $file $package/${file#python/}"; done
   echo "kit - $package/tibzharuk/kit
+sum - $package/tibzharuk/fq_prog.sha256
 link ../$package/tibzharuk/__main__.py bin/tibzharuk"
   # The workflow is beside the package, as in the tree.
   for file in $(files_of workflow config profiles); do echo "file $file ${package%python}$file"; done
+  # What tibzharuk selftest reads.
+  for file in $(files_of examples/reads_1.fq.gz examples/reads_2.fq.gz examples/trimmed); do
+    echo "file $file ${package%python}$file"
+  done
+  for file in $(files_of docs/claims.tsv); do echo "file $file $package/tibzharuk/selftest/${file##*/}"; done
   # MultiQC finds its plugin by these.
   echo "link ../../../$package/tibzharuk lib/python3/dist-packages/tibzharuk
 metadata - $metadata/METADATA
@@ -98,6 +106,7 @@ while read -r kind from name; do
   mkdir -p "${to%/*}"
   case $kind in
     program) install -m 755 "$program" "$to" ;;
+    sum) (cd "$folder/bin" && sha256sum fq_prog) > "$to" ;;
     kit) if command -v rt > /dev/null; then rt version > "$to"; fi ;;
     metadata) metadata > "$to" ;;
     link) ln -sfn "$from" "$to" ;;

@@ -51,7 +51,9 @@ installed_files() {
   local name
   (cd python && find tibzharuk -name __pycache__ -prune -o -type f -printf "$1/%p\n")
   { git ls-files -- workflow config profiles 2> /dev/null || find workflow config profiles -type f; } | sed "s|^|${1%python}|"
-  printf '%s\n' bin/fq_prog bin/tibzharuk "$1/tibzharuk/kit" "lib/python3/dist-packages/tibzharuk"
+  printf '%s\n' bin/fq_prog bin/tibzharuk "$1/tibzharuk/kit" "$1/tibzharuk/fq_prog.sha256" "lib/python3/dist-packages/tibzharuk"
+  printf "${1%python}examples/%s\n" reads_{1,2}.fq.gz trimmed/{{p,u}{1,2}.fq,trim.log,summary.txt}
+  if [ -e docs/claims.tsv ]; then echo "$1/tibzharuk/selftest/claims.tsv"; fi
   printf "lib/python3/dist-packages/tibzharuk-$version.dist-info/%s\n" METADATA entry_points.txt
   printf 'share/man/man1/%s.1\n' fq_prog tibzharuk "${commands[@]/#/tibzharuk-}"
   for name in fq_prog tibzharuk; do

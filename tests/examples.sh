@@ -1,6 +1,6 @@
 #!/usr/bin/env bash
 # The reads in examples/ are those that examples/draw.py makes, and examples/trimmed/ is what the
-# slow program tests/examples/trim.py makes of them. `make run` and tibzharuk trim make the same:
+# slow program of tibzharuk selftest makes of them. `make run` and tibzharuk trim make the same:
 # `make run` with the proved program, and in a copy that isn't built by a build without proofs.
 # Status 77, and 'skipped', if a package is missing.
 set -uo pipefail
@@ -23,8 +23,8 @@ for side in 1 2; do
   gzip -dc "examples/reads_$side.fq.gz" | cmp - "examples/reads_$side.fq" || fail "reads_$side.fq.gz holds other reads"
 done
 
-python3 tests/examples/trim.py examples/reads_1.fq examples/reads_2.fq "$work/slow" "${steps[@]}" || fail 'trim.py fails'
-same_files "$work/slow" 'examples/trimmed/ is not what trim.py makes'
+python3 python/tibzharuk/selftest/slow.py examples/reads_1.fq examples/reads_2.fq "$work/slow" "${steps[@]}" || fail 'the slow program fails'
+same_files "$work/slow" 'examples/trimmed/ is not what the slow program makes'
 
 # trims TREE WORDS: `make run` there says what it must, and says these words about proofs
 trims() {

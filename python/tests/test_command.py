@@ -6,7 +6,7 @@ from tibzharuk import command
 
 
 @pytest.mark.parametrize("words, status, line", (
-    ([], 1, "a command is missing: trim, PE, page, sum, samples, workflow"),
+    ([], 1, "a command is missing: trim, PE, page, sum, samples, workflow, selftest"),
     (["tirm"], 1, "tirm is not a command; did you mean trim?"),
     (["pe"], 1, "pe is not a command; did you mean PE?"),
     (["xyz"], 1, "xyz is not a command"),

@@ -8,6 +8,7 @@ SYNOPSIS
     tibzharuk sum REPORT.. > REPORT
     tibzharuk samples DIRECTORY.. > TABLE
     tibzharuk workflow DIRECTORY
+    tibzharuk selftest
 
 COMMANDS
     trim       trims plain or compressed files, removes adapters, and makes all
@@ -17,6 +18,7 @@ COMMANDS
     sum        adds up reports, such as those of the lanes of a sample
     samples    prints the table of samples that the workflow reads
     workflow   prepares a directory for the workflow, which trims many samples
+    selftest   checks this installation, and makes a record of it to be signed
 
     tibzharuk COMMAND --help says more of each.
 
@@ -40,6 +42,7 @@ COMMANDS = {
     "sum": "tibzharuk.sum",
     "samples": "tibzharuk.samples",
     "workflow": "tibzharuk.workflow",
+    "selftest": "tibzharuk.selftest.command",
 }
 PROGRAM = "fq_prog"
 
