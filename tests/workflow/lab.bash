@@ -123,9 +123,10 @@ same_as_direct() {
   done
 }
 
-# counted REPORT: a report without the names of its files, and without the field by which
-# tibzharuk trim says that no adapters were looked for, or that it found none, and without warnings
-counted() { sed 's/^{"adapters":null,\("adapters_auto":"none",\)\?/{/; s/,"warnings":\[[^]]*\]}$/}/; s/"inputs":{[^}]*}//; s/"outputs":{[^}]*}//' "$1"; }
+# counted REPORT: a report without the names of its files, how it was made and its warnings, and
+# without the field by which tibzharuk trim says that no adapters were looked for, or that it found
+# none
+counted() { sed 's/^{"adapters":null,\("adapters_auto":"none",\)\?/{/; s/,"provenance":\[{.*}\],"reads"/,"reads"/; s/,"warnings":\[[^]]*\]}$/}/; s/"inputs":{[^}]*}//; s/"outputs":{[^}]*}//' "$1"; }
 
 # same_logs SAMPLES..: their trim logs are those of direct calls
 same_logs() {
