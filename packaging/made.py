@@ -1,9 +1,8 @@
 #!/usr/bin/env python3
-"""Makes the parts of files that follow from what fq_prog does, from the help of tibzharuk, from
-docs/report.schema.json and from docs/claims.tsv: of the manual page of fq_prog, the completions, the
-description for CWL, docs/FORMAT.md, docs/PROVED.md and what reads reports. A part lies between the
-lines 'made by packaging/made.py: NAME' and 'end of NAME', which are comments of the file.
-docs/report.example.json is made as a whole."""
+"""Makes the parts of files that follow from what fq_prog does, from the help of tibzharuk and from
+docs/report.schema.json: of the manual page of fq_prog, the completions, the description for CWL,
+docs/FORMAT.md and what reads reports. A part lies between the lines 'made by packaging/made.py: NAME'
+and 'end of NAME', which are comments of the file. docs/report.example.json is made as a whole."""
 
 import argparse
 import difflib
@@ -15,7 +14,6 @@ import tempfile
 from pathlib import Path
 from typing import Any, Callable, Dict, Iterable, Iterator, List, NamedTuple, Tuple
 
-import claims
 import offers
 from man_page import plain, sentences
 from offers import brief, fish_text, lower, zsh_text
@@ -23,7 +21,7 @@ from offers import brief, fish_text, lower, zsh_text
 TREE = Path(__file__).resolve().parent.parent
 FILES = ['man/fq_prog.1', 'completions/fq_prog.bash', 'completions/fq_prog.fish',
          'completions/_fq_prog', 'completions/tibzharuk.bash', 'completions/tibzharuk.fish',
-         'completions/_tibzharuk', 'workflow/cwl/tibzharuk.cwl', 'docs/FORMAT.md', 'docs/PROVED.md',
+         'completions/_tibzharuk', 'workflow/cwl/tibzharuk.cwl', 'docs/FORMAT.md',
          'python/tibzharuk/report/reading.py']
 EXAMPLE_FILE = 'docs/report.example.json'
 PART = re.compile(r'(?ms)^([^\n]*made by packaging/made\.py: ([a-z-]+)[^\n]*\n)'
@@ -352,7 +350,6 @@ def makers(program: str) -> Makers:
         'outputs-for-zsh': lambda: list(zsh_files(pairs.outputs)),
         'commands-for-zsh': lambda: zsh_commands(commands),
         **offers.makers(step_words(pairs)),
-        **claims.makers((TREE / 'docs/claims.tsv').read_text(encoding='utf-8')),
         'encodings': lambda: [f'        symbols: [{", ".join(encodings(pairs.options))}]'],
         'options': lambda: list(option_table(pairs.options)),
         'fields': lambda: list(field_table(schema['properties'])),

@@ -6,7 +6,7 @@ from functools import lru_cache
 from pathlib import Path
 from typing import Callable, Iterator, Optional, Tuple
 
-sys.path[:0] = ["packaging", "tests/documents"]
+sys.path[:0] = ["tests/documents"]
 from claims import Claim, claims_of
 from definitions import contract_in, reached_from
 
