@@ -22,13 +22,15 @@ def reads(tmp_path, monkeypatch):
         (tmp_path / name).write_bytes(b"@r\nA\n+\nI\n")
 
 
-def planned(line, cutadapt=None, compressor="gzip"):
+def planned(line, cutadapt=None, compressor="gzip", direct=False):
     """The lines of a plan, by their roles."""
     given = Arguments(f"{line} --threads 4 --decompressor gzip --compressor gzip MINLEN:3".split())
     tools = Tools(given)
     tools.compressor = compressor
     sides = [Side("forward", given.both or given.forward)]
     sides += [] if given.both else [Side("reverse", given.reverse)]
+    for side in sides if direct else ():
+        side.hand_over()
     outputs = {role: Output(role, name) for role, name in given.outputs_in_order()}
     return [plan.shown(start, outputs) for start in
             plan.plan(given, tools, sides, outputs, cutadapt)]
@@ -56,6 +58,23 @@ def planned(line, cutadapt=None, compressor="gzip"):
 def test_what_is_started(line, wanted, monkeypatch):
     monkeypatch.setattr("os.path.isfile", lambda name: name not in ("/dev/stdin", "/dev/null"))
     assert planned(line) == wanted
+
+
+def test_a_plain_file_is_opened_by_the_program():
+    assert planned(f"-1 a.gz -2 c {OUT}", direct=True)[1:] == [
+        "forward: gzip -dc < a.gz > >(forward)",
+        "program: fq_prog PE --explain --threads=4 -- <(forward) c >(paired1) /dev/null p2 "
+        "/dev/null MINLEN:3 > >(summary)"]
+
+
+@pytest.mark.parametrize("files, left, wanted", (
+    (["c"], None, True), (["c"], 9, False), (["c", "d"], None, False), (["a.gz"], None, False),
+    (["/dev/null"], None, False)))
+def test_which_sides_the_program_opens(files, left, wanted):
+    side = Side("forward", files)
+    side.left = left
+    side.hand_over()
+    assert (side.is_direct, side.is_whole) == (wanted, wanted)
 
 
 def test_a_tool_whose_last_write_is_not_checked():

@@ -428,6 +428,22 @@ class TestFiles(Pieces):
         assert self.command("f", b"@r") == ["cat"]
         assert files.Input("/dev/null").command("bgzip") == ["gzip", "-dcf"]
 
+    def test_how_far_it_was_read(self):
+        each = files.Input(self.put("f", b"@read"))
+        assert each.bytes_read() == 0
+        each.open()
+        each.reader = os.getpid()
+        with open(each.name, "rb", buffering=0) as again:
+            again.read(3)
+            assert sorted(files.places_in(os.getpid(), each.fd)) == [0, 3]
+            assert each.bytes_read() == 3
+        os.lseek(each.fd, 4, os.SEEK_SET)
+        assert each.bytes_read() == 4
+        each.reader = -1    # it has ended
+        assert each.bytes_read() == 4
+        each.close()
+        assert each.bytes_read() == 5
+
     @pytest.mark.parametrize("line, wanted", (
         ("read failed: forward: /dev/fd/1: why", "read failed: forward: a.gz b.gz: why"),
         ("/dev/fd/1, /dev/fd/12 and /dev/fd/1", "a.gz b.gz, - and a.gz b.gz"),

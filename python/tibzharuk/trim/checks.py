@@ -81,9 +81,15 @@ def beginning(name: str) -> bytes:
 
 def first_records(name: str, count: int) -> List[List[bytes]]:
     """The first records of a file, or fewer if there are fewer. A record is taken as four lines."""
-    lines = [line.rstrip(b"\r") for line in beginning(name).split(b"\n")[:-1]]
-    lines = [line for line in lines if line][:4 * count]
-    return [lines[4 * k:4 * k + 4] for k in range(len(lines) // 4)]
+    text, lines = b"", []
+    with contextlib.suppress(OSError, zlib.error):
+        for piece in pieces(name):
+            text += piece
+            lines = [line.rstrip(b"\r") for line in text.split(b"\n")[:-1]]
+            lines = [line for line in lines if line]
+            if len(lines) >= 4 * count or len(text) >= RECORD_BYTES:
+                break
+    return [lines[4 * k:4 * k + 4] for k in range(min(len(lines) // 4, count))]
 
 
 def read_number(record: Sequence[bytes]) -> int:

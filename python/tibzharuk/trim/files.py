@@ -23,6 +23,7 @@ FROM_PIPE = ["sh", "-c", 'exec "$@" < "$0"']
 # between two records, which the program skips.
 AFTER_LINE_FEED = ["sh", "-c", 'echo; exec "$@"', "sh"]
 HERE = os.path.dirname(os.path.abspath(__file__))
+COPY = ["cat"]
 PYTHON = (sys.executable or "python3", "-IS")
 # cutadapt takes no empty line, and no last line without a line feed.
 WHOLE_LINES = [*PYTHON, os.path.join(HERE, "whole_lines.py")]
@@ -126,6 +127,7 @@ class Input:
         self.size = os.stat(name).st_size if os.path.isfile(name) else None
         self.is_done = False
         self.is_packed = False  # a compressed file, not a pipe
+        self.reader: Optional[int] = None   # the process that opens it again, and reads it
 
     def command(self, decompressor: str) -> List[str]:
         """The command that writes the text of this file, which it reads from standard input."""
@@ -140,12 +142,16 @@ class Input:
         except OSError as error:
             raise Fault(4, f"cannot read {self.name}: {reason(error)}")
         if not is_gz and head[:2] != b"\x1f\x8b":
-            return ["cat"]
+            return COPY
         # gzip accepts zeros after the last member, and its message for a file that isn't compressed
         # is clear.
         has_zeros = tail.endswith(bytes(9)) and tail != END_BLOCK
         needs_gzip = has_zeros or head != b"\x1f\x8b\x08"
         return ["gzip" if needs_gzip else decompressor, "-dc"]
+
+    def is_plain(self) -> bool:
+        """Whether it is a file of plain text."""
+        return self.size is not None and self.command("") == COPY
 
     def check_tool(self, decompressor: str) -> None:
         """Refuses the file if what reads it isn't installed."""
@@ -177,15 +183,30 @@ class Input:
             raise Fault(4, f"cannot read {self.name}: {reason(error)}")
 
     def bytes_read(self) -> int:
-        """How far it was read. The process that reads it shares the file's offset with this one."""
+        """How far it was read. The process that reads it shares the file's offset with this one,
+        unless it has opened the file again."""
         if self.is_done or self.size is None:
             return self.size or 0
-        return 0 if self.fd is None else os.lseek(self.fd, 0, os.SEEK_CUR)
+        if self.fd is None:
+            return 0
+        places = places_in(self.reader, self.fd) if self.reader else []
+        return max([os.lseek(self.fd, 0, os.SEEK_CUR), *places])
 
     def close(self) -> None:
         self.is_done = True
         if self.fd is not None:
             os.close(self.fd)
+
+
+def places_in(pid: int, fd: int) -> List[int]:
+    """How far a process has read this file, by each of its descriptors."""
+    places: List[int] = []
+    with contextlib.suppress(OSError):
+        for each in os.listdir(f"/proc/{pid}/fd"):
+            if os.path.samestat(os.stat(f"/proc/{pid}/fd/{each}"), os.fstat(fd)):
+                with open(f"/proc/{pid}/fdinfo/{each}") as lines:
+                    places.append(int(lines.readline().split()[1]))
+    return places
 
 
 class Side:
@@ -199,6 +220,7 @@ class Side:
         self.left: Optional[int] = None     # how many records are still to be read; None: all
         self.fault: Optional[Fault] = None  # why its text is incomplete
         self.is_whole = False               # whether its text was read to its end
+        self.is_direct = False              # whether the program opens its file, without a pipe
 
     def current(self) -> Input:
         return self.inputs[self.place]
@@ -209,6 +231,12 @@ class Side:
 
     def files(self) -> str:
         return " ".join(self.names)
+
+    def hand_over(self) -> None:
+        """The program opens its file, if that is a plain one and is read to its end. So nothing is
+        copied, and the program itself says whether a read failed."""
+        self.is_direct = len(self.inputs) == 1 and self.left is None and self.inputs[0].is_plain()
+        self.is_whole = self.is_direct
 
 
 def sides_of(arguments: "Arguments") -> List[Side]:

@@ -3,6 +3,7 @@
 import contextlib
 import itertools
 import os
+import re
 import zlib
 from typing import Dict, Iterator, List, NamedTuple, Optional, Sequence, Tuple
 
@@ -19,6 +20,7 @@ MOST_PERCENT = 1
 BASES = 12
 AUTO, NONE = "auto", "none"     # what --adapters is given, and what it takes if reads hold none
 PIECE = 1 << 16
+LOW_SCORE = re.compile(b"[^;-\xff]")    # of which Phred+64 has none
 Pairs = List[Tuple[bytes, bytes]]       # the bases of both mates
 Lanes = Sequence[Sequence[str]]         # the files of each lane: one that is interleaved, or two
 
@@ -64,17 +66,19 @@ def pieces(name: str) -> Iterator[bytes]:
 def first_text(name: str, lines: int) -> bytes:
     """The beginning of a file's text, with at least so many lines if it has them within MOST_BYTES,
     and without empty lines before them. It ends at damage, of which the run will say more."""
-    text, left = bytearray(), lines
+    text: List[bytes] = []
+    size, left = 0, lines
     with contextlib.suppress(OSError, zlib.error):
         for piece in pieces(name):
-            piece = piece if text else piece.lstrip(b"\r\n")
-            text += piece
+            piece = piece if size else piece.lstrip(b"\r\n")
+            text.append(piece)
+            size += len(piece)
             left -= piece.count(b"\n")
-            if left <= 0 or len(text) >= MOST_BYTES:
+            if left <= 0 or size >= MOST_BYTES:
                 break
         else:
-            text += b"\n" if text else b""  # a last line needs none
-    return bytes(text[:MOST_BYTES])
+            text.append(b"\n" if size else b"")  # a last line needs none
+    return b"".join(text)[:MOST_BYTES]
 
 
 def first_reads(name: str, most: int, line: int = 1) -> List[bytes]:
@@ -111,7 +115,7 @@ def word_on_scores(files: Sequence[str]) -> Optional[str]:
         if not os.path.isfile(name):
             continue
         scores = b"".join(first_reads(name, FEW_READS, 3)).replace(b"\r", b"")
-        if scores and min(scores) >= 59 and max(scores) > 83:
+        if scores and not LOW_SCORE.search(scores) and max(scores) > 83:
             return (f"the scores of {name} go up to {max(scores) - 33}, so its qualities are "
                     "probably Phred+64: use --encoding illumina13")
     return None

@@ -41,7 +41,7 @@ class Lane(NamedTuple):
     name: str
 
 
-Word = Union[str, End, Made]
+Word = Union[str, End, Made, Lane]
 Stream = Union[None, End, Made, Lane]
 
 
@@ -61,8 +61,10 @@ def plan(arguments: Arguments, tools: Tools, sides: Sequence[Side], outputs: Dic
     """All that is started, the last first: who reads a pipe is there before who writes it. Of the
     sides it starts the first lanes. `cutadapt`: its options, or None without it."""
     starts = [start for output in outputs.values() for start in writers(arguments, tools, output)]
-    starts += [lane(side, 0, tools.decompressor, cutadapt is not None) for side in sides]
-    sources = [End(side.name, False) for side in sides]
+    starts += [lane(side, 0, tools.decompressor, cutadapt is not None)
+               for side in sides if not side.is_direct]
+    sources: List[Word] = [Lane(side.names[0]) if side.is_direct else End(side.name, False)
+                           for side in sides]
     if cutadapt is not None:
         starts.append(trimmer_of_adapters(cutadapt, tools.threads, sources))
         sources = [End(TRIMMED, False)]
@@ -113,7 +115,7 @@ def lane(side: Side, place: int, decompressor: str, is_for_cutadapt: bool) -> St
     return Start(side.name, tuple(words), source, End(side.name, True))
 
 
-def trimmer_of_adapters(options: Sequence[str], threads: int, sources: Sequence[End]) -> Start:
+def trimmer_of_adapters(options: Sequence[str], threads: int, sources: Sequence[Word]) -> Start:
     words: List[Word] = ["cutadapt", *options, "-j", str(threads), "--interleaved"]
     words += ["--json", End(CUTADAPT_COUNTED, True), "-o", End(TRIMMED, True), *sources]
     return Start("cutadapt", tuple(words), None, End(CUTADAPT_PRINTED, True))
@@ -125,7 +127,7 @@ def counter(threads: int, role: str) -> Start:
     return Start("samtools", words, None, End(FLAGS, True))
 
 
-def program(arguments: Arguments, outputs: Dict[str, Output], sources: Sequence[End]) -> Start:
+def program(arguments: Arguments, outputs: Dict[str, Output], sources: Sequence[Word]) -> Start:
     def written(role: str) -> Word:
         output = outputs[role]
         return End(role, True) if is_piped(output) else Made(role)
@@ -145,7 +147,7 @@ def program(arguments: Arguments, outputs: Dict[str, Output], sources: Sequence[
 
 def shown(start: Start, outputs: Dict[str, Output]) -> str:
     """A process as one line, with the names of pipes as <NAME and >NAME."""
-    def text(word: Union[Word, Lane]) -> str:
+    def text(word: Word) -> str:
         if isinstance(word, End):
             return f"{'>' if word.is_writing else '<'}({word.pipe})"
         if isinstance(word, Made):

@@ -41,6 +41,7 @@ class Run:
         self.cutadapt: Optional[Cutadapt] = None
         if arguments.uses_cutadapt():
             self.cutadapt = Cutadapt(arguments, self.sample)
+        self.hand_over()
         # How far the last pairs of --pairs are isn't known.
         inputs = [] if arguments.pairs else [each for side in self.sides for each in side.inputs]
         self.progress = Progress(arguments.progress, inputs)
@@ -53,6 +54,11 @@ class Run:
         # What is written at once, and can't be taken back.
         self.streams = [each.name for each in self.outputs.values()
                         if each.is_device and each.name != os.devnull]
+
+    def hand_over(self) -> None:
+        """Leaves plain files to the program."""
+        for side in () if self.cutadapt else self.sides:
+            side.hand_over()
 
     def go(self) -> None:
         """Makes all outputs, or none."""
@@ -104,7 +110,8 @@ class Run:
         for output in self.outputs.values():
             output.hide()
         for side in self.sides:
-            self.pipes.make(side.name, True, True)
+            if not side.is_direct:
+                self.pipes.make(side.name, True, True)
             side.current().open()
         if self.cutadapt:
             self.pipes.make(TRIMMED, False, True)
@@ -127,16 +134,19 @@ class Run:
         self.program_sum = sum_of_program(self.arguments.program)
 
     def start(self, start: Start) -> None:
-        passed = [self.pipes.fd(*word) for word in start.words if isinstance(word, End)]
+        passed = [self.fd(word) for word in start.words if isinstance(word, (End, Lane))]
         words = [self.text(word) for word in start.words]
         usual = KEEPS_BUFFERS.items() if start.role == "cutadapt" else ()
-        self.family.start(start.role, words, self.fd(start.stdin), self.fd(start.stdout), passed,
-                          usual, start.is_users)
+        self.family.start(start.role, words, self.fd(start.stdin), self.fd(start.stdout),
+                          [fd for fd in passed if fd is not None], usual, start.is_users)
+        for side in self.sides:
+            if side.is_direct and start.role == "program":
+                side.current().reader = self.family.children[-1].process.pid
 
     def text(self, word: Word) -> str:
         """A word as the process gets it."""
-        if isinstance(word, End):
-            return f"/dev/fd/{self.pipes.fd(*word)}"
+        if isinstance(word, (End, Lane)):
+            return f"/dev/fd/{self.fd(word)}"
         return self.outputs[word.role].written() if isinstance(word, Made) else word
 
     def fd(self, stream: Stream) -> Optional[int]:
@@ -152,7 +162,8 @@ class Run:
     def names(self) -> Dict[str, str]:
         """The user's names, by those that the program gets."""
         files = [side.files() for side in self.sides]
-        sources = [self.pipes.name(side.name, False) for side in self.sides]
+        sources = [self.text(Lane(side.names[0])) if side.is_direct
+                   else self.pipes.name(side.name, False) for side in self.sides]
         if self.cutadapt:
             sources, files = [self.pipes.name(TRIMMED, False)], [", ".join(files)]
         found = dict(zip(sources, files))
@@ -264,6 +275,7 @@ class Run:
             output.forget()
         self.arguments, self.cutadapt = self.arguments.into_nowhere(), None
         self.sides = sides_of(self.arguments)
+        self.hand_over()
         self.outputs = {role: Output(role, name)
                         for role, name in self.arguments.outputs_in_order()}
         self.ends.clear()
