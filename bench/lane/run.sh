@@ -1,7 +1,16 @@
 #!/usr/bin/env bash
-# Times a lane beside the bounded channel of Rust's std. Needs rt and rustc on the path.
+# Times a lane (an ordered queue between two threads) beside the bounded channel of Rust's std. Needs rt
+# and rustc on the path, and builds both programs in a directory of its own outside the tree.
 #
 #     bench/lane/run.sh [RUNS]      RUNS, 5 if not given: each figure is the median of this many runs, taken in turn
+#
+# An item: numbers go from one thread to the other by put and take_wait (send and recv), at several
+# depths. A turn: one number goes there and back through two lanes of depth 1, so each end waits. At last
+# the sender of a full lane, and then the receiver of an empty one, waits for a second while the other
+# thread sleeps: the processor time of the whole process.
+#
+# lane.rt.txt is no crate of the repository, so that the gate needn't prove a benchmark. Its name ends in
+# .txt because the gate reports a .rt file outside a crate. It is proved before it is built.
 set -euo pipefail
 
 here=$(cd "$(dirname "$0")" && pwd)
