@@ -10,6 +10,10 @@ from tibzharuk import command
     (["tirm"], 1, "tirm is not a command; did you mean trim?"),
     (["pe"], 1, "pe is not a command; did you mean PE?"),
     (["xyz"], 1, "xyz is not a command"),
+    (["IL"], 1, "IL is not a command; tibzharuk trim -i takes interleaved files"),
+    (["SE"], 1, "SE is not a command; single-end reads are for another trimmer"),
+    (["/dev/null"], 1,
+     "/dev/null: a file comes after a command, as in tibzharuk trim -1 /dev/null"),
 ))
 def test_what_is_refused(words, status, line, capfd, monkeypatch):
     monkeypatch.setattr(command, "ready_for_signals", lambda: None)

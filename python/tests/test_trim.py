@@ -43,6 +43,9 @@ REFUSED = (
     ("-x", f"-x{ASTRAY}"),
     ("--block 7 x", f"x{ASTRAY}"),
     ("--strange x", f"--strange{ASTRAY}"),
+    ("-i a -I b", "-I is not an option; reverse reads come after -2, and forward reads after -1 "
+     "(tibzharuk trim --help)"),
+    ("-o a", "-o is not an option; --out PREFIX names the outputs (tibzharuk trim --help)"),
     ("-1=x", f"-1=x{NEAR.format('-1')}"),
     ("--sync=x", f"--sync=x{NEAR.format('--sync')}"),
     ("-threads 4", f"-threads{NEAR.format('--threads')}"),
@@ -516,6 +519,8 @@ class TestFiles(Pieces):
         (gzip.compress(b"<html>"), "it is a web page, so its download failed"),
         (b"\x1f\x8b\x08", None), (b"\x1f\x8b\x08\0\0\0\0\0\0\3\xff\xff", None), (gzip.compress(b"@HD\n"), None),
         (b"@HD VN:1", None), (b">r1", None), (b"@r1", None), (b"", None),
+        (b"@r1\rA\r+\rI\r", r"its lines end in CR alone; tr '\r' '\n' makes lines of it"),
+        (b"@r1\r" + 5000 * b"A" + b"\n", None), (b"@r1\r\nA\r\n", None), (b"r\r", None),
     ))
     def test_formats(self, head, why):
         each = files.Input(self.put("f.gz", head))

@@ -45,6 +45,12 @@ COMMANDS = {
     "selftest": "tibzharuk.selftest.command",
 }
 PROGRAM = "fq_prog"
+# What helps with words that are commands of other trimmers, or of fq_prog.
+INSTEAD = {
+    "IL": "tibzharuk trim -i takes interleaved files",
+    "SE": "single-end reads are for another trimmer",
+    "EXAMPLE": "fq_prog EXAMPLE shows a run",
+}
 
 
 def ready_for_signals() -> None:
@@ -104,9 +110,12 @@ def show_version(name: str = PROGRAM) -> int:
 def near(word: str) -> str:
     """What is said of a word that is no command."""
     import difflib
+    if os.path.exists(word):
+        return f"{word}: a file comes after a command, as in tibzharuk trim -1 {word}"
     known = {name.lower(): name for name in COMMANDS}
     found = difflib.get_close_matches(word.lower(), known, 1, 0.6)
-    return f"{word} is not a command" + (f"; did you mean {known[found[0]]}?" if found else "")
+    hint = f"; did you mean {known[found[0]]}?" if found else ""
+    return f"{word} is not a command" + (f"; {INSTEAD[word]}" if word in INSTEAD else hint)
 
 
 def main(words: Optional[Sequence[str]] = None) -> int:

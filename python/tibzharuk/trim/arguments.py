@@ -41,6 +41,16 @@ REFUSED_NAMES = (
 LETTERS_WITHOUT_VALUE = "NZz"    # of cutadapt: another option may follow in the same word
 PASSED_NUMBERS = {"block": 65536, "depth": 64, "chunk": 1048576}   # and the most of each
 MOST_PAIRS = 10 ** 12
+# What is meant by options of fastp and Cutadapt.
+NAMES_OUTPUTS, NAMES_ADAPTERS = "--out PREFIX names the outputs", "--adapters names adapters"
+OF_OTHERS = {
+    "-I": "reverse reads come after -2, and forward reads after -1",
+    "-o": NAMES_OUTPUTS, "-O": NAMES_OUTPUTS, "-p": NAMES_OUTPUTS,
+    "-a": NAMES_ADAPTERS, "-A": NAMES_ADAPTERS,
+    "-j": "-t N sets the threads", "-w": "-t N sets the threads", "-z": "--level N compresses",
+    "-q": "TRAILING:20 is a step that cuts low bases", "-l": "MINLEN:36 is a step",
+    "-m": "MINLEN:36 is a step",
+}
 MISPLACED = re.compile("[A-Za-z0-9]+:[0-9]")     # a word that could be a step
 HELP = "(tibzharuk trim --help)"
 EMPTY = "an argument is empty: is a variable not set?"
@@ -221,7 +231,7 @@ class Parser(argparse.ArgumentParser):
             return Fault(1, f"{word}: a file comes after -1, -2 or -i {HELP}")
         name = word.partition("=")[0]
         near = difflib.get_close_matches(name, self.takes_value, 1, 0.7) if word[0] == "-" else []
-        hint = "steps are words such as MINLEN:36"
+        hint = OF_OTHERS.get(name, "steps are words such as MINLEN:36")
         if near or misplaced_step(word):
             hint = f"did you mean {near[0] if near else misplaced_step(word)}?"
         return Fault(1, f"{word} is not an option; {hint} {HELP}")

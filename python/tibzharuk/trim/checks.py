@@ -45,6 +45,14 @@ def other_format(head: bytes) -> Optional[str]:
     return "it is a web page, so its download failed" if WEB_PAGE.match(text) else None
 
 
+def old_line_ends(name: str, head: bytes) -> Optional[str]:
+    """What a file is whose text has no line feed, as far as a line may be long, and what helps. To
+    the program such a text is one title."""
+    if not head.startswith(b"@") or b"\r" not in head or b"\n" in head + beginning(name):
+        return None
+    return r"its lines end in CR alone; tr '\r' '\n' makes lines of it"
+
+
 def lacks_end(fd: int, size: int) -> bool:
     """Whether a file ends in a block of BGZF that holds text. Programs that write BGZF put an empty
     block after the last one, so the file may have been cut between two blocks."""
@@ -108,9 +116,10 @@ def are_copies(forward: Records, reverse: Records) -> bool:
     return has_bases and all(one == other for one, other in mates)
 
 
-def check_mates(forward: Records, reverse: Records, files: str) -> None:
+def check_mates(forward: Records, reverse: Records, files: str, question: str = "") -> None:
     """Refuses first records that show that their files are exchanged, or one a copy of the other.
-    The program compares names only up to the first space."""
+    The program compares names only up to the first space. `question`: what comes after a warning.
+    """
     numbers: Tuple[int, int] = (read_number(forward[0]), read_number(reverse[0]))
     if are_copies(forward, reverse):
         raise Fault(3, f"both sides begin with the same records: {files} {PASSED}")
@@ -118,7 +127,7 @@ def check_mates(forward: Records, reverse: Records, files: str) -> None:
         raise Fault(3, f"the sides seem to be exchanged: the first read numbers are {numbers[0]} "
                        f"and {numbers[1]}: {files} {PASSED}")
     if 0 < numbers[0] == numbers[1]:
-        warn(f"the first reads of both sides have the number {numbers[0]}: {files}")
+        warn(f"the first reads of both sides have the number {numbers[0]}: {files}{question}")
 
 
 def check_lanes(forward: Sequence[str], reverse: Sequence[str]) -> None:
@@ -134,4 +143,5 @@ def check_interleaved(files: Sequence[str]) -> None:
     for name in files:
         records = first_records(name, 2 * RECORDS) if os.path.isfile(name) else []
         if len(records) > 1:
-            check_mates(records[::2], records[1::2], name)
+            check_mates(records[::2], records[1::2], name,
+                        "; is it one of two files (-1 and -2)?")

@@ -10,7 +10,7 @@ import sys
 from typing import TYPE_CHECKING, Dict, Iterable, List, Optional, Sequence
 
 from .arguments import READS
-from .checks import END_BLOCK, FRONT_BYTES, beginning, lacks_end, other_format
+from .checks import END_BLOCK, FRONT_BYTES, beginning, lacks_end, old_line_ends, other_format
 from .faults import Fault, reason, write_all
 from .tools import which
 
@@ -175,7 +175,8 @@ class Input:
             return False
         try:
             with open(self.name, "rb") as file:
-                other = other_format(file.read(FRONT_BYTES))
+                head = file.read(FRONT_BYTES)
+                other = other_format(head) or old_line_ends(self.name, head)
                 if other:
                     raise Fault(3, f"cannot read {self.name}: {other}")
                 return lacks_end(file.fileno(), self.size)
