@@ -578,6 +578,13 @@ class TestFiles(Pieces):
         both = none + record(b"@b")
         assert self.refused(checks.check_mates, both, both, "f, r")[0] == 3
 
+    def test_one_side_as_interleaved(self, capfd):
+        name = self.put("f", b"@a 1:N:0:A\nA\n+\nI\n@b 1:N:0:A\nC\n+\nI\n")
+        checks.check_interleaved([name])
+        assert capfd.readouterr().err == (
+            "tibzharuk: warning: the first reads of both sides have the number 1: "
+            f"{name}; is it one of two files (-1 and -2)?\n")
+
     def output(self, old):
         """An output with new text in its hidden file, and an older output if its text is given."""
         for name in os.listdir(self.folder):
