@@ -127,8 +127,8 @@ done
 count=${asked:-1000000}
 [ -x "$program" ] || stop "no program $program (make build makes it)"
 program=$(realpath "$program")
-# tibzharuk is run by the system's Python, as Debian's cutadapt is. A version manager's python3 may be
-# a script that takes 0.1 s.
+# tibzharuk is run by the system's Python, as Debian's cutadapt is, and with the options of its first
+# line. A version manager's python3 may be a script that takes 0.1 s.
 python=$(type -P /usr/bin/python3 || type -P python3) || stop "no python3"
 export python
 built=$(mktemp -d)
@@ -239,6 +239,7 @@ list_rows() {
   row 'passing, one processor' 1 run_passing_alone
   row 'fq_prog' 1 run_ours
   row 'fq_prog' 4 run_ours
+  row 'tibzharuk trim' 4 run_command
   [ -z "$serial" ] || row 'run_serial, log' 1 run_ours_serial
   [ "$peers" = yes ] || return 0
   peer TrimmomaticPE 'trimmomatic, log' run_trimmomatic_log 1 4

@@ -75,6 +75,13 @@ run_ours() {
   pairs_read=$(number_in "$room/said" 'Input Read Pairs')
 }
 
+# The command over the same plain files.
+run_command() {
+  timed "$python" -IS "$here/../../python/tibzharuk/__main__.py" trim --program "$program" --threads "$1" -1 "$forward" -2 "$reverse" \
+    --paired1 fp --unpaired1 fu --paired2 rp --unpaired2 ru -- "${steps[@]}"
+  pairs_read=$(number_in "$room/said" 'Input Read Pairs')
+}
+
 # run_ours_blocked [OPTION]..: one output is a pipe that nobody reads for ten seconds
 run_ours_blocked() {
   # shellcheck disable=SC2016  # the parameters are those of the inner shell
@@ -182,7 +189,7 @@ gz_ours() {
   [[ ${2-} != level* ]] || more+=(--level "${2#level}")
   ! given report "$@" || more+=(--report json --html html)
   ! given adapters "$@" || more+=(--adapters "${adapters[0]},${adapters[1]}")
-  timed "$python" "$here/../../python/tibzharuk/__main__.py" trim --program "$program" "${more[@]}" -1 "$forward.gz" -2 "$reverse.gz" \
+  timed "$python" -IS "$here/../../python/tibzharuk/__main__.py" trim --program "$program" "${more[@]}" -1 "$forward.gz" -2 "$reverse.gz" \
     --paired1 fp.gz --unpaired1 fu.gz --paired2 rp.gz --unpaired2 ru.gz -- "${steps[@]}"
   pairs_read=$(number_in "$room/said" 'Input Read Pairs')
 }
@@ -192,7 +199,7 @@ gz_ours() {
 gz_stream() {
   local more=(--threads "$1")
   ! given adapters "$@" || more+=(--adapters "${adapters[0]},${adapters[1]}")
-  timed bash -c 'set -o pipefail; "$@" | cat > /dev/null' bash "$python" "$here/../../python/tibzharuk/__main__.py" trim --program "$program" "${more[@]}" \
+  timed bash -c 'set -o pipefail; "$@" | cat > /dev/null' bash "$python" -IS "$here/../../python/tibzharuk/__main__.py" trim --program "$program" "${more[@]}" \
     -1 "$forward.gz" -2 "$reverse.gz" --interleaved - --no-unpaired -- "${steps[@]}"
   pairs_read=$(number_in "$room/told" 'Input Read Pairs')
   number_in "$room/told" 'Both Surviving' > "$out/kept"
@@ -232,7 +239,7 @@ gz_two_passes() {
   # shellcheck disable=SC2016  # they are the shell's that is started
   timed sh -c 'cutadapt --cores "$1" -a "$2" -A "$3" -Z -o "$4.1.fq.gz" -p "$4.2.fq.gz" "$5" "$6" >/dev/null && shift 3 &&
         script=$4 program=$5 threads=$6 level=$7 between=$1 && shift 7 &&
-        exec "$python" "$script" trim --program "$program" --threads "$threads" --level "$level" -1 "$between.1.fq.gz" -2 "$between.2.fq.gz" \
+        exec "$python" -IS "$script" trim --program "$program" --threads "$threads" --level "$level" -1 "$between.1.fq.gz" -2 "$between.2.fq.gz" \
             --paired1 fp.gz --unpaired1 fu.gz --paired2 rp.gz --unpaired2 ru.gz -- "$@"' two_passes \
     "$1" "${adapters[@]}" "$room/between" "$forward.gz" "$reverse.gz" "$here/../../python/tibzharuk/__main__.py" "$program" "$1" "$level" "${steps[@]}"
   pairs_read=$(number_in "$room/said" 'Input Read Pairs')
