@@ -216,6 +216,7 @@ fn refuse_words<O: Outlet, E: Outlet>(
     ensures usage_lines { result ≡ 1 → TookLines (device_of E.state err.old err.new) }
     ensures unprinted { result ≡ 4 → LacksPrint (device_of O.state out.old out.new)
         (device_of E.state err.old err.new) result }
+    ensures once { result ≡ 4 → (O.state out.new).failures ≡ 1 }
     ensures unread { result ≡ 5 → LacksMemory (device_of E.state err.old err.new) result }
     ensures prints { PrintsByStatus O.state E.state out.old out.new err.old err.new result }
 {
