@@ -5,7 +5,7 @@ use Rattle.std.proofs.lemmas.Nat.{from_be_bytes-to_be_bytes_4}
 use Rattle.fq_text.specs.declared.encoding.Encoding.{Encoding}
 use Rattle.fq_text.specs.Grammar.{Read, IsLawful}
 use Rattle.fq_pair.specs.Mates.{Mates}
-use Rattle.fq_block.specs.Packing.{packed_length, packed_read, packed_pair, length_in, title_len_in, bases_in, parts_in, read_in, behind_read, pair_in, HoldsRead, HoldsPair}
+use Rattle.fq_block.specs.Packing.{packed_length, packed_read, packed_pair, length_in, title_len_in, bases_in, parts_in, read_in, after_read, pair_in, HoldsRead, HoldsPair}
 use Rattle.fq_block.specs.Blocks.{Fits}
 
 -- A length.
@@ -74,8 +74,8 @@ module _ (packed title seq qual rest : List ℕ)
       ∙ take-append_seam qual rest
 
   -- after the read come the bytes that follow it
-  pub behind_is : behind_read packed ≡ rest
-  behind_is = ap (drop (bases_in packed)) scores_is ∙ ap (λ n. drop n (qual ++ rest)) scores_len
+  pub after_is : after_read packed ≡ rest
+  after_is = ap (drop (bases_in packed)) scores_is ∙ ap (λ n. drop n (qual ++ rest)) scores_len
       ∙ drop-append_seam qual rest
 
   -- both lengths and all three parts are within the bytes
@@ -134,8 +134,8 @@ module _ (r : Read) (lawful : IsLawful r) where
         record { encoding = r.encoding; title = r.title; seq = r.seq; qual = q } in k) qual
 
     -- after a valid read that was packed come the bytes that follow it
-    pub behind_read-packed_read : behind_read (packed_read r ++ rest) ≡ rest
-    behind_read-packed_read = behind_is (packed_read r ++ rest) r.title r.seq r.qual rest bytes_are
+    pub after_read-packed_read : after_read (packed_read r ++ rest) ≡ rest
+    after_read-packed_read = after_is (packed_read r ++ rest) r.title r.seq r.qual rest bytes_are
         title_small seq_small lawful.same_len
 
     -- bytes that begin with a packed valid read hold a whole valid read
@@ -158,12 +158,12 @@ module _ (encoding : Encoding) (m : Mates) (fits : Fits encoding m) (rest : List
       (sym fits.encodings.0)
       ∙ read_in-packed_read m.forward fits.forward (packed_read m.reverse ++ rest)
 
-  behind_forward : behind_read (packed_pair m ++ rest) ≡ packed_read m.reverse ++ rest
-  behind_forward = ap behind_read pair_bytes
-      ∙ behind_read-packed_read m.forward fits.forward (packed_read m.reverse ++ rest)
+  after_forward : after_read (packed_pair m ++ rest) ≡ packed_read m.reverse ++ rest
+  after_forward = ap after_read pair_bytes
+      ∙ after_read-packed_read m.forward fits.forward (packed_read m.reverse ++ rest)
 
-  reverse_in : read_in encoding (behind_read (packed_pair m ++ rest)) ≡ m.reverse
-  reverse_in = ap (read_in encoding) behind_forward
+  reverse_in : read_in encoding (after_read (packed_pair m ++ rest)) ≡ m.reverse
+  reverse_in = ap (read_in encoding) after_forward
       ∙ ap (λ e. read_in e (packed_read m.reverse ++ rest)) (sym fits.encodings.1)
       ∙ read_in-packed_read m.reverse fits.reverse rest
 
@@ -173,7 +173,7 @@ module _ (encoding : Encoding) (m : Mates) (fits : Fits encoding m) (rest : List
       ap (λ (f : Read). let k : Mates = record {
         forward = f;
         reverse =
-            read_in encoding (behind_read (packed_pair m ++ rest));
+            read_in encoding (after_read (packed_pair m ++ rest));
       } in k) forward_in
       ∙ ap (λ (r : Read). let k : Mates = record { forward = m.forward; reverse = r } in
       k) reverse_in
@@ -185,7 +185,7 @@ module _ (encoding : Encoding) (m : Mates) (fits : Fits encoding m) (rest : List
         (subst (λ e. HoldsRead e (packed_read m.forward ++ (packed_read m.reverse ++ rest)))
         fits.encodings.0
         (HoldsRead-packed_read m.forward fits.forward (packed_read m.reverse ++ rest))),
-    subst (HoldsRead encoding) (sym behind_forward)
+    subst (HoldsRead encoding) (sym after_forward)
         (subst (λ e. HoldsRead e (packed_read m.reverse ++ rest)) fits.encodings.1
         (HoldsRead-packed_read m.reverse fits.reverse rest)),
   )

@@ -283,22 +283,22 @@ dealt_holds c d q h = record {
   stopped = h.stopped;
 }
 
-stop_behind : (rs : List Reply) → next_reply rs ≡ Some texts → has_stop (drop 1 rs) ≡ has_stop rs
-stop_behind [] e = cc
-stop_behind (texts ∷ rs) e = refl
-stop_behind (stop ∷ rs) e = cc
+stop_after : (rs : List Reply) → next_reply rs ≡ Some texts → has_stop (drop 1 rs) ≡ has_stop rs
+stop_after [] e = cc
+stop_after (texts ∷ rs) e = refl
+stop_after (stop ∷ rs) e = cc
 
 wrote_holds : (c d : ℕ) (q : Seat) → next_reply q.replies ≡ Some texts → Holds c d q →
     Holds (suc c) d (with_reply_taken q)
 wrote_holds c d q e h =
     let less = one_less q.replies (some_reply texts q.replies e) in
-    let behind = stop_behind q.replies e in
+    let after = stop_after q.replies e in
     record {
       most = omega (arith, less, h.most);
       all =
-          ⊎_elim (λ x. inl (behind ∙ x)) (λ x. inr (omega (arith, less, x))) h.all;
+          ⊎_elim (λ x. inl (after ∙ x)) (λ x. inr (omega (arith, less, x))) h.all;
       stopped =
-          λ x. behind ∙ h.stopped x;
+          λ x. after ∙ h.stopped x;
     }
 
 share_next : (workers n t : ℕ) → t ≡ turn_at workers n →

@@ -62,10 +62,10 @@ calm_all : (p : Run) (j : ℕ) (q : Seat) (seats : ℕ → Seat) →
 calm_all p j q seats all here = changed_each (λ i seat. i < p.workers → IsCalm seat) j q seats
     (λ h. here (all j h)) (λ i other. all i)
 
-no_stop_behind : (rs : List Reply) → has_stop rs ≡ false → has_stop (drop 1 rs) ≡ false
-no_stop_behind [] e = refl
-no_stop_behind (texts ∷ rs) e = e
-no_stop_behind (stop ∷ rs) e = cc
+no_stop_after : (rs : List Reply) → has_stop rs ≡ false → has_stop (drop 1 rs) ≡ false
+no_stop_after [] e = refl
+no_stop_after (texts ∷ rs) e = e
+no_stop_after (stop ∷ rs) e = cc
 
 no_stop_more : (rs : List Reply) → has_stop rs ≡ false → has_stop (rs ++ texts ∷ []) ≡ false
 no_stop_more [] e = refl
@@ -75,7 +75,7 @@ no_stop_more (stop ∷ rs) e = cc
 calm_taken : (q : Seat) → IsCalm q → IsCalm (with_reply_taken q)
 calm_taken q c = record {
   doing = c.doing;
-  replies = no_stop_behind q.replies c.replies;
+  replies = no_stop_after q.replies c.replies;
   empty =
       c.empty;
 }
