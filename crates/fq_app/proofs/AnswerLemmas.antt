@@ -10,7 +10,7 @@ use Rattle.clap.specs.Kinds.{IsAmong, Kinds}
 use Rattle.clap.specs.Words.{Text}
 use Rattle.clap.specs.declared.error.kind.ErrorKind.{ErrorKind}
 use Rattle.fq_run.specs.Outcome.{Outcome}
-use Rattle.fq_run.specs.Outcome.TheVariants.{Spawn, Lane, Gate, Memory, Write, Read, Endless, Input, Finished}
+use Rattle.fq_run.specs.Outcome.TheVariants.{Lane, Gate, Memory}
 use Rattle.fq_run.specs.Endings.{ends_whole}
 use Rattle.fq_app_files.specs.Faults.{settled, status_when, outcome_status, line_when, memory_words}
 use Rattle.fq_text.specs.Written.{line}
@@ -45,51 +45,7 @@ asks_this words read own a is pairs asked = let some : Some own ≡ Some a = sym
 -- the status of a refusal is neither 0 nor 1
 pub refusal_fails : (refusal : Refusal) → (status_of refusal ≢ 0) × (status_of refusal ≢ 1)
     × (status_of refusal ≢ 3)
-refusal_fails why.Encoding = (
-  (λ e. absurd (omega (arith, e))),
-  (λ e. absurd (omega (arith, e))),
-  (λ e. absurd (omega (arith, e))),
-)
-refusal_fails (why.Step fault) = (
-  (λ e. absurd (omega (arith, e))),
-  (λ e. absurd (omega (arith, e))),
-  (λ e. absurd (omega (arith, e))),
-)
-refusal_fails (why.Setting bad) = (
-  (λ e. absurd (omega (arith, e))),
-  (λ e. absurd (omega (arith, e))),
-  (λ e. absurd (omega (arith, e))),
-)
-refusal_fails (why.SameName out) = (
-  (λ e. absurd (omega (arith, e))),
-  (λ e. absurd (omega (arith, e))),
-  (λ e. absurd (omega (arith, e))),
-)
-refusal_fails (why.Source side cause) = (
-  (λ e. absurd (omega (arith, e))),
-  (λ e. absurd (omega (arith, e))),
-  (λ e. absurd (omega (arith, e))),
-)
-refusal_fails (why.Target out cause) = (
-  (λ e. absurd (omega (arith, e))),
-  (λ e. absurd (omega (arith, e))),
-  (λ e. absurd (omega (arith, e))),
-)
-refusal_fails why.SameReport = (
-  (λ e. absurd (omega (arith, e))),
-  (λ e. absurd (omega (arith, e))),
-  (λ e. absurd (omega (arith, e))),
-)
-refusal_fails (why.Report cause) = (
-  (λ e. absurd (omega (arith, e))),
-  (λ e. absurd (omega (arith, e))),
-  (λ e. absurd (omega (arith, e))),
-)
-refusal_fails (why.Memory lacked) = (
-  (λ e. absurd (omega (arith, e))),
-  (λ e. absurd (omega (arith, e))),
-  (λ e. absurd (omega (arith, e))),
-)
+refusal_fails refusal = grind arith
 
 -- nor is the status at which a refusal is reported
 pub refuses_fails : (a : Asking) (refusal : Refusal) (err : Device) (status : ℕ) →
@@ -449,10 +405,7 @@ failed_device a old new out err status seen outcome reported error its_error rep
 -- a report that was written or not due has not failed
 pub not_failed : (reported : Reported) → (reported ≡ report.NotDue) ⊎ (reported ≡ report.Written) →
     reported ≢ report.Failed
-not_failed reported (inl none) failed = let bad : report.NotDue ≡ report.Failed = sym none
-    ∙ failed in absurd (cc bad)
-not_failed reported (inr written) failed = let bad : report.Written ≡ report.Failed = sym written
-    ∙ failed in absurd (cc bad)
+not_failed reported which = grind arith
 
 -- what a run leaves in the file of the report
 pub is_left : (a : Asking) (old new : Holding) (name : List ℕ) (reported : Reported) →
@@ -554,29 +507,18 @@ refuses_memory a (why.Report cause) err status (inl told) five =
 refuses_memory a refusal err status (inr lacks) five = inl lacks.told
 
 -- so has an outcome with status 5
+is_memory : (o : Outcome) → status_when o ≡ 5 → o ≡ Memory
+is_memory o five = grind arith
+
 ending_memory : (a : Asking) (seen : EndingSeen) (o : Outcome) (err : Device) →
     status_when o ≡ 5 → TookText err (ending_line_when a seen o) → TookMemoryLine err
-ending_memory a seen Memory err five took = memory_took a.explain err _ took
-ending_memory a seen Finished err five took = absurd (omega (arith, five))
-ending_memory a seen Spawn err five took = absurd (omega (arith, five))
-ending_memory a seen Lane err five took = absurd (omega (arith, five))
-ending_memory a seen Gate err five took = absurd (omega (arith, five))
-ending_memory a seen (Write out) err five took = absurd (omega (arith, five))
-ending_memory a seen (Read side) err five took = absurd (omega (arith, five))
-ending_memory a seen (Endless side) err five took = absurd (omega (arith, five))
-ending_memory a seen (Input fault) err five took = absurd (omega (arith, five))
+ending_memory a seen o err five took = memory_took a.explain err _
+    (subst (λ (o : Outcome). TookText err (ending_line_when a seen o)) (is_memory o five) took)
 
 plain_memory : (o : Outcome) (err : Device) → status_when o ≡ 5 → TookText err (line_when o) →
     TookMemoryLine err
-plain_memory Memory err five took = inl took
-plain_memory Finished err five took = absurd (omega (arith, five))
-plain_memory Spawn err five took = absurd (omega (arith, five))
-plain_memory Lane err five took = absurd (omega (arith, five))
-plain_memory Gate err five took = absurd (omega (arith, five))
-plain_memory (Write out) err five took = absurd (omega (arith, five))
-plain_memory (Read side) err five took = absurd (omega (arith, five))
-plain_memory (Endless side) err five took = absurd (omega (arith, five))
-plain_memory (Input fault) err five took = absurd (omega (arith, five))
+plain_memory o err five took =
+    inl (subst (λ (o : Outcome). TookText err (line_when o)) (is_memory o five) took)
 
 -- also in a run that nobody asked for
 pub told_memory : (asked : Option Asking) (seen : EndingSeen) (outcome : Outcome) (err : Device) →

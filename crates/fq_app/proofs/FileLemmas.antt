@@ -2,11 +2,9 @@
 use Rattle.std.proofs.Common.{◌≡◌, ◌⊎◌, ◌∙◌, Option, Some, None, List, [], ◌∷◌, ◌++◌, append_assoc, ℕ, ap, sym, subst, refl, arith, ⊎_elim, inl, inr}
 use Rattle.std.specs.List.{All}
 use Rattle.std.proofs.lemmas.List.Elements.{All-nil, All-cons, All-head, All-tail}
-use Rattle.fq_text.specs.declared.fault.TextFault.TheVariants as text
 use Rattle.fq_pair.specs.declared.out.Out.{Out}
 use Rattle.fq_pair.specs.declared.counts.Counts.{Counts}
 use Rattle.fq_pair.specs.declared.fault.InputFault.{InputFault}
-use Rattle.fq_pair.specs.declared.fault.InputFault.TheVariants.{Text, MateMissing, NamesDiffer}
 use Rattle.fq_pair.specs.Mates.{Mates}
 use Rattle.fq_pair.specs.Outputs.{texts_of, text_of}
 use Rattle.fq_run_core.specs.Fates.{block_begun}
@@ -40,19 +38,7 @@ first_are_pairs P ms all first are = all_first P ms first.0 (subst (All P) first
 
 -- a run that ended at a fault doesn't have status 0
 faulty : (fault : InputFault) → outcome_status (Input fault) ≡ 0 → ⊥
-faulty (Text side (text.NoTitle k)) e = absurd (omega (arith, e))
-faulty (Text side (text.BadSequence k)) e = absurd (omega (arith, e))
-faulty (Text side (text.NoPlus k)) e = absurd (omega (arith, e))
-faulty (Text side (text.PlusDiffers k)) e = absurd (omega (arith, e))
-faulty (Text side (text.BadQuality k)) e = absurd (omega (arith, e))
-faulty (Text side (text.QualityLong k)) e = absurd (omega (arith, e))
-faulty (Text side (text.QualityShort k)) e = absurd (omega (arith, e))
-faulty (Text side (text.TooLong k)) e = absurd (omega (arith, e))
-faulty (Text side text.Read) e = absurd (omega (arith, e))
-faulty (Text side text.Endless) e = absurd (omega (arith, e))
-faulty (Text side text.OutOfMemory) e = absurd (omega (arith, e))
-faulty (MateMissing side k) e = absurd (omega (arith, e))
-faulty (NamesDiffer k) e = absurd (omega (arith, e))
+faulty fault e = grind arith
 
 complete : (fault : Option InputFault) → outcome_status (trimmed_outcome fault) ≡ 0 →
     fault ≡ None

@@ -127,9 +127,9 @@ took_none None None text took none = none
 took_none None (Some new) text took none = absurd took
 took_none (Some old) None text took none = absurd took
 
-healthy_behind : (old new : OutletStates) (texts : Out → List ℕ) → OutletsTook old new texts None →
+healthy_after : (old new : OutletStates) (texts : Out → List ℕ) → OutletsTook old new texts None →
     AreHealthy old → AreHealthy new
-healthy_behind old new texts took healthy = record {
+healthy_after old new texts took healthy = record {
   forward_paired = took_none (Some old.forward_paired) (Some new.forward_paired)
       (texts ForwardPaired) (took ForwardPaired) healthy.forward_paired;
   forward_unpaired = took_none (Some old.forward_unpaired) (Some new.forward_unpaired)
@@ -141,16 +141,16 @@ healthy_behind old new texts took healthy = record {
   log = took_none old.log new.log (texts Log) (took Log) healthy.log;
 }
 
-sound_behind : (old new : OutletStates) (texts : Out → List ℕ) (failed : Option Out) →
+sound_after : (old new : OutletStates) (texts : Out → List ℕ) (failed : Option Out) →
     failed ≡ None → OutletsTook old new texts failed → AreHealthy old → AreHealthy new
-sound_behind old new texts failed none took = let P : Option Out → Type 0 =
-    λ f. OutletsTook old new texts f in healthy_behind old new texts (subst P none took)
+sound_after old new texts failed none took = let P : Option Out → Type 0 =
+    λ f. OutletsTook old new texts f in healthy_after old new texts (subst P none took)
 
 -- if a run ended whole, no outlet has failed
 pub outlets_sound : (c : Choices) (run : Run) → EveryEnding c run →
     IsTrue (ends_whole run.outcome) → AreHealthy run.outlets → AreHealthy run.outlets_left
 outlets_sound c run every whole healthy =
-    sound_behind run.outlets run.outlets_left
+    sound_after run.outlets run.outlets_left
     (λ out. text_of out (texts_of c.steps every.whole) ++ part_begun c.steps every.fate out)
     (failed_outlet every.fate)
     (none_failed c run every whole) every.took healthy

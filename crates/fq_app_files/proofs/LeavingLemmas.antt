@@ -114,7 +114,7 @@ leaves_since a (why.Target out cause) old mid new same left = ⊎_elim
       before = stops.before;
       there = λ name named. unchanged_or_nothing (old name) (mid name) (new name) (same name)
           (stops.there name named);
-      behind = λ name behind. stops.behind name behind ∙ same name;
+      after = λ name after. stops.after name after ∙ same name;
     }))
     (λ kept. inr (λ name. kept name ∙ same name)) left
 leaves_since a why.SameReport old mid new same left = λ name. left name ∙ same name
@@ -162,17 +162,17 @@ whole_first a old new outcome counts trims =
 -- ---- the report
 
 -- a refusal before the report is made leaves its file unchanged
-pub report_behind : (refusal : Refusal) (old new : Option (List ℕ)) → new ≡ old →
+pub report_after : (refusal : Refusal) (old new : Option (List ℕ)) → new ≡ old →
     ReportLeft refusal old new
-report_behind why.Encoding old new same = same
-report_behind (why.Step fault) old new same = same
-report_behind (why.Setting bad) old new same = same
-report_behind (why.SameName out) old new same = same
-report_behind (why.Source side cause) old new same = same
-report_behind (why.Target out cause) old new same = same
-report_behind why.SameReport old new same = same
-report_behind (why.Report cause) old new same = inl same
-report_behind (why.Memory lacked) old new same = inl same
+report_after why.Encoding old new same = same
+report_after (why.Step fault) old new same = same
+report_after (why.Setting bad) old new same = same
+report_after (why.SameName out) old new same = same
+report_after (why.Source side cause) old new same = same
+report_after (why.Target out cause) old new same = same
+report_after why.SameReport old new same = same
+report_after (why.Report cause) old new same = inl same
+report_after (why.Memory lacked) old new same = inl same
 
 -- the report itself was refused, or memory for it
 pub report_refused : (refusal : Refusal) (old new : Option (List ℕ)) →

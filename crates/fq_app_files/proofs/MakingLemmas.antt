@@ -55,7 +55,7 @@ unmade_of a this name old new named there others = record {
 pub none_made : (a : Asking) (start : Holding) → AreMade a start 0 start
 none_made a start = record {
   empty = λ out name named below. absurd (omega (arith, below));
-  kept = λ name behind. refl;
+  kept = λ name after. refl;
 }
 
 -- a name is this one, or it is not
@@ -89,9 +89,9 @@ next_made a start old new this first made = record {
       (λ equal. made_empty a this out old new name made (same_place out this equal) named)
       (below_next (place out) (place this) below))
       (this_or_other (output_name a this) name);
-  kept = λ name behind.
-      made.others name (λ own. let bad = behind this own in absurd (omega (arith, bad)))
-      ∙ first.kept name (λ out named. let more = behind out named in omega (arith, more));
+  kept = λ name after.
+      made.others name (λ own. let bad = after this own in absurd (omega (arith, bad)))
+      ∙ first.kept name (λ out named. let more = after out named in omega (arith, more));
 }
 
 -- a name that no output has is unchanged
@@ -121,7 +121,7 @@ below_or_not m n = grind arith
 first_or_later : (a : Asking) (n : ℕ) (name : List ℕ) (out : Out) →
     IsFirst a n name out ⊎ IsLater a n name out
 first_or_later a n name out = ⊎_elim
-    (λ named. ⊎_elim (λ below. inl (below, named)) (λ behind. inr (λ again. behind))
+    (λ named. ⊎_elim (λ below. inl (below, named)) (λ after. inr (λ again. after))
     (below_or_not (place out) n))
     (λ other. inr (λ named. absurd (other named)))
     (this_or_other (output_name a out) name)
@@ -189,9 +189,9 @@ stops_at a start old new this first unmade = record {
       (this_or_other (output_name a this) name);
   there = λ name named. unchanged_or_empty (start name) (old name) (new name)
       (made_untrimmed a start old (place this) first name) (unmade.there name named);
-  behind = λ name behind.
-      unmade.others name (λ own. let bad = behind this own in absurd (omega (arith, bad)))
-      ∙ first.kept name (λ out named. let more = behind out named in omega (arith, more));
+  after = λ name after.
+      unmade.others name (λ own. let bad = after this own in absurd (omega (arith, bad)))
+      ∙ first.kept name (λ out named. let more = after out named in omega (arith, more));
 }
 
 -- if an output was not made, nothing was trimmed
@@ -203,7 +203,7 @@ stops_untrimmed a this start new stops out name named = ⊎_elim
     (λ equal. stops.there name (ap (output_name a) (sym (same_place found.0 this equal))
     ∙ found.1.1))
     (below_next (place found.0) (place this) found.1.0))
-    (λ later. inl (stops.behind name (λ other is. let more = later other is in
+    (λ later. inl (stops.after name (λ other is. let more = later other is in
     omega (arith, more))))
     (named_before a (suc (place this)) name)
 
@@ -253,7 +253,7 @@ pub no_log_made : (a : Asking) (start files : Holding) → output_name a Log ≡
 no_log_made a start files none made = record {
   empty = λ out name named below. ⊎_elim (λ before. made.empty out name named before)
       (λ four. absurd (not_log out name four named)) (below_next (place out) 4 below);
-  kept = λ name behind. made.kept name (λ out named. let more = behind out named in
+  kept = λ name after. made.kept name (λ out named. let more = after out named in
       omega (arith, more));
 }
   where

@@ -67,11 +67,11 @@ pub refused_late : (a : Asking) (refusal : Refusal) (old new : FilesState) (inpu
     → (IsTrue old.tells → (name : List ℕ) → a.report ≡ Some name → IsNoOutput a name →
     ReportLeft refusal (old.bytes name) (new.bytes name)) →
     (IsTrue old.tells → KeepsUnnamed a old.bytes new.bytes) → IsUnopened a refusal old new
-refused_late a refusal old new inputs behind late refused fed left report_left
+refused_late a refusal old new inputs after late refused fed left report_left
     rest = record {
       late = late;
       refused = refused;
-      inputs = λ told. tells_late a.inputs refusal old _ _ behind
+      inputs = λ told. tells_late a.inputs refusal old _ _ after
           (fed told).forward.bytes_are (fed told).reverse.bytes_are;
       left = left;
       report_left = report_left;
@@ -135,8 +135,8 @@ outputs_refused a refusal out old mid new kept made refused = record {
   unmade = refused.unmade old.bytes made;
   refused = subst (λ (files : FilesState). IsRefusable a (MayRefuse files) refusal) kept
       refused.refused;
-  behind = refused.behind;
-  late = late_status refusal refused.behind;
+  after = refused.after;
+  late = late_status refusal refused.after;
 }
 
 -- ---- before the first file is opened

@@ -63,7 +63,7 @@ pub record StopsAt (a : Asking) (out : Out) (old new : Holding) : Type 0 where
       output_name a other ≡ Some name → place other < place out → new name ≡ Some []
   pub there : (name : List ℕ) → output_name a out ≡ Some name →
       (new name ≡ old name) ⊎ (new name ≡ Some [])
-  pub behind : (name : List ℕ) → ((other : Out) →
+  pub after : (name : List ℕ) → ((other : Out) →
       output_name a other ≡ Some name → place out < place other) → new name ≡ old name
 
 -- the outputs are empty

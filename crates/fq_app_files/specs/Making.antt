@@ -43,7 +43,7 @@ pub record AreOutputsMade (a : Asking)
 pub record AreOutputsRefused (a : Asking) (why : Refusal) (old new : FilesState) : Type 0 where
   pub unmade : Unmade a why old.bytes new
   pub refused : IsRefusable a (MayRefuse old) why
-  pub behind : IsTrue (is_late why)
+  pub after : IsTrue (is_late why)
   pub late : status_of why ≢ 2
 
 -- One more output has been made.
@@ -59,7 +59,7 @@ pub record IsOutputRefused (a : Asking) (out : Out)
   pub why_is : IsTarget out why ⊎ IsMemory why
   pub unmade : (start : Holding) → Made a start (place out) old → Unmade a why start new
   pub refused : IsRefusable a (MayRefuse old) why
-  pub behind : IsTrue (is_late why)
+  pub after : IsTrue (is_late why)
 
 -- those of the first n outputs that have a name of their own hold what their outlets have taken
 abbrev pub HoldFirst : ℕ → Asking → OutletStates → Holding → Type 0

@@ -80,6 +80,7 @@ fn error_of(outlets: &Outlets<Option<SystemError>>, out: Out) -> Option<SystemEr
         Out::ForwardUnpaired => outlets.forward_unpaired,
         Out::ReversePaired => outlets.reverse_paired,
         Out::ReverseUnpaired => outlets.reverse_unpaired,
+        // Without a log there is no outlet that can have failed.
         Out::Log => outlets.log.unwrap_or(None),
     }
 }

@@ -17,11 +17,11 @@ use Rattle.clap.specs.Faults.{settle_fault, use_fault, positional_fault, stray_f
 use Rattle.clap.proofs.OnLiterals.{clap_on_literals}
 use Rattle.fq_app_words.specs.Requests.{Asking, InputNames, two_files, interleaved_file}
 use Rattle.fq_app_words.specs.Words.{file_rule, steps_rule, pairs_app, interleaved_app, program_app, most, asked_in, asked_of, asking_in, pairs_asked, words_fault, AskedFor}
-use Rattle.fq_app_words.specs.CommandLines.{IsPlain, Choice, threads, block, depth, chunk, encoding, trimlog, no_name_check, sync, report, explain, IsUsual, AreUsual, with_choice, with_choices, option_words, OutputNames, output_words, asking_with, PairsAreAskedFor, MixedPairsAreAskedFor}
+use Rattle.fq_app_words.specs.CommandLines.{IsPlain, Choice, threads, block, depth, chunk, encoding, trimlog, no_name_check, sync, report, explain, IsUsual, AreUsual, with_choice, with_choices, option_words, OutputNames, output_words, asking_with, PairsAreAskedFor, InterleavedPairsAreAskedFor}
 use Rattle.fq_app_words.proofs.DecimalLemmas.{decimal_read}
 use Rattle.fq_app_words.proofs.RowLemmas.{look, look_last, use_row, at_new, default_row, look_finished, default_kinds, defaults_sound}
 use Rattle.fq_app_words.proofs.RunLemmas.{run, one_word, standing, plain_run, stopped_at, words_kept}
-use Rattle.fq_app_words.proofs.OptionLemmas.{leaf, pairs_others, mixed_others, pending, Holds, Leads, then_lead, single_held, choice_row, AreNew, choices_lead}
+use Rattle.fq_app_words.proofs.OptionLemmas.{leaf, pairs_others, interleaved_others, pending, Holds, Leads, then_lead, single_held, choice_row, AreNew, choices_lead}
 
 -- Files.
 
@@ -384,8 +384,8 @@ abbrev pairs_files : Text → Text → OutputNames → List (Text × Text)
 pairs_files f r outputs = (codes "F", f) ∷ (codes "R", r) ∷ output_files outputs
 
 -- the files of `IL`
-abbrev mixed_files : Text → OutputNames → List (Text × Text)
-mixed_files i outputs = (codes "I", i) ∷ output_files outputs
+abbrev interleaved_files : Text → OutputNames → List (Text × Text)
+interleaved_files i outputs = (codes "I", i) ∷ output_files outputs
 
 -- the same by the walk over the words of the program
 abbrev top_by : Walk × Kinds → Kinds × Option Asking
@@ -403,9 +403,9 @@ pairs_entered program words =
     ap top_by (one_word s names start (stopped_at start (codes "PE") []) (codes "PE") words
     refl refl ∙ words_kept s names words start (codes "PE") [])
 
-mixed_entered : IsEntered (codes "IL") (leaf (codes "IL") mixed_others)
+interleaved_entered : IsEntered (codes "IL") (leaf (codes "IL") interleaved_others)
 unfolding clap_on_literals program_app pairs_app interleaved_app pairs_asked words_fault
-mixed_entered program words =
+interleaved_entered program words =
     let s = (built program_app).top in
     let names = names_of (built program_app) in
     let start = walk_from nothing_held in
@@ -463,17 +463,17 @@ module _ (choices : List Choice) (usual : All IsUsual choices) (outputs : Output
       }
 
   -- what `IL` takes
-  mixed_take : (i : Text) → Takes (codes "IL") mixed_others choices
-      (mixed_files i outputs) step steps
+  interleaved_take : (i : Text) → Takes (codes "IL") interleaved_others choices
+      (interleaved_files i outputs) step steps
       (asking_for choices outputs (step ∷ steps) (interleaved_file i))
   unfolding clap_on_literals asking_in
-  mixed_take i =
-      let files = mixed_files i outputs in
+  interleaved_take i =
+      let files = interleaved_files i outputs in
       let none = no_file choices in
-      let found = found_after (codes "IL") mixed_others choices files step steps in
-      let given = given_after (codes "IL") mixed_others choices files step steps in
+      let found = found_after (codes "IL") interleaved_others choices files step steps in
+      let given = given_after (codes "IL") interleaved_others choices files step steps in
       record {
-        entered = mixed_entered;
+        entered = interleaved_entered;
         are_files = (
           (refl, refl, refl, none.2, refl),
           (
@@ -515,11 +515,11 @@ pairs_are_asked_for f r program choices outputs (step ∷ steps) usual are plain
     are.fit program
 
 -- `IL [options] I FP FU RP RU STEPS..` asks for these names, steps and values
-pub mixed_are_asked_for : MixedPairsAreAskedFor
-mixed_are_asked_for i program choices outputs [] usual are plain = absurd (are.some refl)
-mixed_are_asked_for i program choices outputs (step ∷ steps) usual are plain =
-    line_asked (codes "IL") mixed_others choices (mixed_files i outputs) step steps
+pub interleaved_are_asked_for : InterleavedPairsAreAskedFor
+interleaved_are_asked_for i program choices outputs [] usual are plain = absurd (are.some refl)
+interleaved_are_asked_for i program choices outputs (step ∷ steps) usual are plain =
+    line_asked (codes "IL") interleaved_others choices (interleaved_files i outputs) step steps
     (asking_for choices outputs (step ∷ steps) (interleaved_file i))
-    (mixed_take choices usual.usual outputs step steps i) usual
+    (interleaved_take choices usual.usual outputs step steps i) usual
     (recursion_from_All IsPlain (i ∷ (output_words outputs ++ step ∷ steps)) plain)
     are.fit program

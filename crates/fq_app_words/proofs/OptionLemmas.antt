@@ -41,8 +41,8 @@ pairs_others = filled_from 1 (file_rule (codes "F") ∷ file_rule (codes "R")
     ∷ (output_rules ++ help_rule ∷ version_rule ∷ []))
 
 -- the arguments of `IL` after the options, filled in
-abbrev pub mixed_others : List Rule
-mixed_others =
+abbrev pub interleaved_others : List Rule
+interleaved_others =
     filled_from 1 (file_rule (codes "I") ∷ (output_rules ++ help_rule ∷ version_rule ∷ []))
 
 -- What is held between two words.

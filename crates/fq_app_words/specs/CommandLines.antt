@@ -141,6 +141,6 @@ PairsAreAskedFor = (forward reverse : Text) →
     AsksFor (codes "PE") (forward ∷ reverse ∷ []) (two_files forward reverse)
 
 -- `IL [options] I FP FU RP RU STEPS..`
-abbrev pub MixedPairsAreAskedFor : Type 0
-MixedPairsAreAskedFor = (both : Text) →
+abbrev pub InterleavedPairsAreAskedFor : Type 0
+InterleavedPairsAreAskedFor = (both : Text) →
     AsksFor (codes "IL") (both ∷ []) (interleaved_file both)

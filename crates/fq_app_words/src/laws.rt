@@ -1,6 +1,6 @@
 //! What usual command lines ask for.
 
-ghost use Rattle.fq_app_words.specs.CommandLines.{PairsAreAskedFor, MixedPairsAreAskedFor};
+ghost use Rattle.fq_app_words.specs.CommandLines.{PairsAreAskedFor, InterleavedPairsAreAskedFor};
 
 /// `PE F R FP FU RP RU STEPS..` and `IL I FP FU RP RU STEPS..` ask for exactly these names and
 /// steps, with the defaults of all options, if no name and no step begins with a hyphen.
@@ -10,5 +10,5 @@ ghost use Rattle.fq_app_words.specs.CommandLines.{PairsAreAskedFor, MixedPairsAr
 /// What is asked for then has these values.
 pub fn usual_command_lines()
     ensures pairs { PairsAreAskedFor }
-    ensures mixed { MixedPairsAreAskedFor }
+    ensures interleaved { InterleavedPairsAreAskedFor }
 {}

@@ -9,6 +9,7 @@ use Rattle.fq_pair.specs.Mates.{Mates}
 use Rattle.fq_block.specs.Packing.{packed_pair, packed_pairs, pair_in, HoldsPair}
 use Rattle.fq_block.specs.Blocks.{pairs_at, starts_from, Fits, AllFit, IsPacked}
 use Rattle.fq_block.proofs.PackingLemmas.{pair_in-packed_pair, HoldsPair-packed_pair}
+use Rattle.std.proofs.lemmas.Grind.{common_steps}
 
 AllFit-append : (encoding : Encoding) (ms : List Mates) (m : Mates) → AllFit encoding ms →
     Fits encoding m → AllFit encoding (ms ++ m ∷ [])
@@ -24,11 +25,7 @@ starts_from-append : (n : ℕ) (ms : List Mates) (m : Mates) →
     starts_from n (ms ++ m ∷ []) ≡ starts_from n ms ++ (n + length (packed_pairs ms)) ∷ []
 starts_from-append n [] m = let e : n ≡ n + 0 = omega arith in ap (λ k. k ∷ []) e
 starts_from-append n (k ∷ ks) m =
-    let e : n + length (packed_pair k) + length (packed_pairs ks)
-    ≡ n + length (packed_pair k ++ packed_pairs ks) =
-    omega (arith, length-append (packed_pair k) (packed_pairs ks)) in
-    ap (λ starts. n ∷ starts) (starts_from-append (n + length (packed_pair k)) ks m)
-    ∙ ap (λ at. n ∷ (starts_from (n + length (packed_pair k)) ks ++ at ∷ [])) e
+    grind (arith, common_steps, length-append, starts_from-append (n + length (packed_pair k)) ks m)
 
 module _ (encoding : Encoding) where
   -- packed pairs are found where they begin
@@ -74,12 +71,7 @@ module _ (encoding : Encoding) where
     IsPacked-of : (ms : List Mates) → AllFit encoding ms → bytes ≡ packed_pairs ms →
         starts ≡ starts_from 0 ms → length starts ≤ 65536 → IsPacked encoding bytes starts
     IsPacked-of ms fit packed placed few =
-        let same = pairs_are ms fit packed placed in record {
-          packed = packed ∙ ap packed_pairs (sym same);
-          placed = placed ∙ ap (starts_from 0) (sym same);
-          fit = subst (AllFit encoding) (sym same) fit;
-          few = few;
-        }
+        grind (arith, common_steps, pairs_are)
 
   module _ (bytes starts : List ℕ) (is : IsPacked encoding bytes starts) where
     -- there are as many pairs as places
@@ -119,11 +111,7 @@ module _ (encoding : Encoding) where
       starts_more : starts ++ length bytes ∷ []
           ≡ starts_from 0 (pairs_at encoding bytes starts ++ m ∷ [])
       starts_more =
-          let ms = pairs_at encoding bytes starts in
-          ap (λ s. s ++ length bytes ∷ []) is.placed
-          ∙ ap (λ n. starts_from 0 ms ++ n ∷ []) (ap length is.packed
-          ∙ sym (zero-add (length (packed_pairs ms))))
-          ∙ sym (starts_from-append 0 ms m)
+          grind (arith, common_steps, zero-add, starts_from-append)
 
       -- one more pair
       pub pairs_at-pushed : pairs_at encoding (bytes ++ packed_pair m) (starts ++ length bytes ∷ [])

@@ -5,8 +5,9 @@ use Rattle.std.proofs.lemmas.Nat.{from_be_bytes-to_be_bytes_4}
 use Rattle.fq_text.specs.declared.encoding.Encoding.{Encoding}
 use Rattle.fq_text.specs.Grammar.{Read, IsLawful}
 use Rattle.fq_pair.specs.Mates.{Mates}
-use Rattle.fq_block.specs.Packing.{packed_length, packed_read, packed_pair, length_in, title_len_in, bases_in, parts_in, read_in, behind_read, pair_in, HoldsRead, HoldsPair}
+use Rattle.fq_block.specs.Packing.{packed_length, packed_read, packed_pair, length_in, title_len_in, bases_in, parts_in, read_in, after_read, pair_in, HoldsRead, HoldsPair}
 use Rattle.fq_block.specs.Blocks.{Fits}
+use Rattle.std.proofs.lemmas.Grind.{common_steps}
 
 -- A length.
 
@@ -74,23 +75,14 @@ module _ (packed title seq qual rest : List ℕ)
       ∙ take-append_seam qual rest
 
   -- after the read come the bytes that follow it
-  pub behind_is : behind_read packed ≡ rest
-  behind_is = ap (drop (bases_in packed)) scores_is ∙ ap (λ n. drop n (qual ++ rest)) scores_len
+  pub after_is : after_read packed ≡ rest
+  after_is = ap (drop (bases_in packed)) scores_is ∙ ap (λ n. drop n (qual ++ rest)) scores_len
       ∙ drop-append_seam qual rest
 
   -- both lengths and all three parts are within the bytes
   pub whole_is : 8 + title_len_in packed + bases_in packed + bases_in packed ≤ length packed
   whole_is =
-      let a = length-packed_length (length title) in
-      let b = length-packed_length (length seq) in
-      let c = ap length is in
-      let d = length-append (packed_length (length title))
-      (packed_length (length seq) ++ (title ++ (seq ++ (qual ++ rest)))) in
-      let e = length-append (packed_length (length seq)) (title ++ (seq ++ (qual ++ rest))) in
-      let f = length-append title (seq ++ (qual ++ rest)) in
-      let g = length-append seq (qual ++ rest) in
-      let h = length-append qual rest in
-      omega (arith, title_len_is, bases_is)
+      grind (arith, common_steps, length-packed_length, length-append, title_len_is, bases_is)
 
 -- A read.
 module _ (r : Read) (lawful : IsLawful r) where
@@ -108,34 +100,11 @@ module _ (r : Read) (lawful : IsLawful r) where
     -- a valid read that was packed is read back
     pub read_in-packed_read : read_in r.encoding (packed_read r ++ rest) ≡ r
     read_in-packed_read =
-        let bytes = packed_read r ++ rest in
-        let title = title_is bytes r.title r.seq r.qual rest bytes_are title_small seq_small
-        lawful.same_len in
-        let seq = seq_is bytes r.title r.seq r.qual rest bytes_are title_small seq_small
-        lawful.same_len in
-        let qual = qual_is bytes r.title r.seq r.qual rest bytes_are title_small seq_small
-        lawful.same_len in
-        ap (λ (t : List ℕ). let k : Read = record {
-          encoding = r.encoding;
-          title = t;
-          seq =
-              (read_in r.encoding bytes).seq;
-          qual = (read_in r.encoding bytes).qual;
-        } in k) title
-        ∙ ap (λ (s : List ℕ). let k : Read =
-        record {
-          encoding = r.encoding;
-          title = r.title;
-          seq = s;
-          qual =
-              (read_in r.encoding bytes).qual;
-        } in k) seq
-        ∙ ap (λ (q : List ℕ). let k : Read =
-        record { encoding = r.encoding; title = r.title; seq = r.seq; qual = q } in k) qual
+        grind (arith, common_steps, title_is, bytes_are, title_small, seq_small, seq_is, qual_is)
 
     -- after a valid read that was packed come the bytes that follow it
-    pub behind_read-packed_read : behind_read (packed_read r ++ rest) ≡ rest
-    behind_read-packed_read = behind_is (packed_read r ++ rest) r.title r.seq r.qual rest bytes_are
+    pub after_read-packed_read : after_read (packed_read r ++ rest) ≡ rest
+    after_read-packed_read = after_is (packed_read r ++ rest) r.title r.seq r.qual rest bytes_are
         title_small seq_small lawful.same_len
 
     -- bytes that begin with a packed valid read hold a whole valid read
@@ -153,39 +122,24 @@ module _ (encoding : Encoding) (m : Mates) (fits : Fits encoding m) (rest : List
   pair_bytes = append_assoc (packed_read m.forward) (packed_read m.reverse) rest
 
   forward_in : read_in encoding (packed_pair m ++ rest) ≡ m.forward
-  forward_in = ap (read_in encoding) pair_bytes
-      ∙ ap (λ e. read_in e (packed_read m.forward ++ (packed_read m.reverse ++ rest)))
-      (sym fits.encodings.0)
-      ∙ read_in-packed_read m.forward fits.forward (packed_read m.reverse ++ rest)
+  forward_in =
+      grind (arith, common_steps, pair_bytes, read_in-packed_read)
 
-  behind_forward : behind_read (packed_pair m ++ rest) ≡ packed_read m.reverse ++ rest
-  behind_forward = ap behind_read pair_bytes
-      ∙ behind_read-packed_read m.forward fits.forward (packed_read m.reverse ++ rest)
+  after_forward : after_read (packed_pair m ++ rest) ≡ packed_read m.reverse ++ rest
+  after_forward = ap after_read pair_bytes
+      ∙ after_read-packed_read m.forward fits.forward (packed_read m.reverse ++ rest)
 
-  reverse_in : read_in encoding (behind_read (packed_pair m ++ rest)) ≡ m.reverse
-  reverse_in = ap (read_in encoding) behind_forward
+  reverse_in : read_in encoding (after_read (packed_pair m ++ rest)) ≡ m.reverse
+  reverse_in = ap (read_in encoding) after_forward
       ∙ ap (λ e. read_in e (packed_read m.reverse ++ rest)) (sym fits.encodings.1)
       ∙ read_in-packed_read m.reverse fits.reverse rest
 
   -- a pair that was packed is read back
   pub pair_in-packed_pair : pair_in encoding (packed_pair m ++ rest) ≡ m
   pair_in-packed_pair =
-      ap (λ (f : Read). let k : Mates = record {
-        forward = f;
-        reverse =
-            read_in encoding (behind_read (packed_pair m ++ rest));
-      } in k) forward_in
-      ∙ ap (λ (r : Read). let k : Mates = record { forward = m.forward; reverse = r } in
-      k) reverse_in
+      grind (arith, common_steps, forward_in, reverse_in)
 
   -- bytes that begin with a packed pair hold a pair
   pub HoldsPair-packed_pair : HoldsPair encoding (packed_pair m ++ rest)
-  HoldsPair-packed_pair = (
-    subst (HoldsRead encoding) (sym pair_bytes)
-        (subst (λ e. HoldsRead e (packed_read m.forward ++ (packed_read m.reverse ++ rest)))
-        fits.encodings.0
-        (HoldsRead-packed_read m.forward fits.forward (packed_read m.reverse ++ rest))),
-    subst (HoldsRead encoding) (sym behind_forward)
-        (subst (λ e. HoldsRead e (packed_read m.reverse ++ rest)) fits.encodings.1
-        (HoldsRead-packed_read m.reverse fits.reverse rest)),
-  )
+  HoldsPair-packed_pair =
+      grind (arith, common_steps, pair_bytes, HoldsRead-packed_read, after_forward)

@@ -57,13 +57,13 @@ read_in encoding packed = record {
 }
 
 -- what comes after it
-abbrev pub behind_read : List ℕ → List ℕ
-behind_read packed = drop (bases_in packed)
+abbrev pub after_read : List ℕ → List ℕ
+after_read packed = drop (bases_in packed)
     (drop (bases_in packed) (drop (title_len_in packed) (parts_in packed)))
 
 -- the pair at the front
 abbrev pub pair_in : Encoding → List ℕ → Mates
-pair_in encoding packed = mates_in (read_in encoding packed) (read_in encoding (behind_read packed))
+pair_in encoding packed = mates_in (read_in encoding packed) (read_in encoding (after_read packed))
 
 -- a whole lawful read is at the front
 pub record HoldsRead (encoding : Encoding) (packed : List ℕ) : Type 0 where
@@ -72,4 +72,4 @@ pub record HoldsRead (encoding : Encoding) (packed : List ℕ) : Type 0 where
 
 -- a pair is at the front
 abbrev pub HoldsPair : Encoding → List ℕ → Type 0
-HoldsPair encoding packed = HoldsRead encoding packed × HoldsRead encoding (behind_read packed)
+HoldsPair encoding packed = HoldsRead encoding packed × HoldsRead encoding (after_read packed)

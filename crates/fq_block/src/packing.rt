@@ -3,7 +3,7 @@
 ghost use Rattle.std.specs.Prelude.{◌≡◌, ◌+◌, ◌≤◌, ◌^◌, ◌<◌, ◌++◌, ◌∷◌, [], Some, length, drop, slice_get, OnOk, OnErr, vec_len, vec_capacity};
 ghost use Rattle.fq_text.specs.Grammar.{IsLawful};
 ghost use Rattle.fq_pair.specs.Mates.{mates_in};
-ghost use Rattle.fq_block.specs.Packing.{length_limit, packed_length, packed_read, packed_pair, room_of, length_in, read_in, behind_read, pair_in, HoldsRead, HoldsPair};
+ghost use Rattle.fq_block.specs.Packing.{length_limit, packed_length, packed_read, packed_pair, room_of, length_in, read_in, after_read, pair_in, HoldsRead, HoldsPair};
 ghost use Rattle.fq_block.specs.Blocks.{pairs_at, IsPacked};
 
 use fq_pair::{NameLengths, PairView};
@@ -137,8 +137,8 @@ pub(crate) fn unpack_pair(encoding: Encoding, packed: &[u8]) -> PairView<'_>
     requires { HoldsPair encoding packed.now }
     ensures { mates_in result.forward result.reverse ≡ pair_in encoding packed.now }
 {
-    let (forward, behind) = unpack_read(encoding, packed);
-    let (reverse, _) = unpack_read(encoding, behind);
+    let (forward, after) = unpack_read(encoding, packed);
+    let (reverse, _) = unpack_read(encoding, after);
     PairView { forward, reverse }
 }
 
@@ -146,14 +146,14 @@ pub(crate) fn unpack_pair(encoding: Encoding, packed: &[u8]) -> PairView<'_>
 fn unpack_read(encoding: Encoding, packed: &[u8]) -> (ReadView<'_>, &[u8])
     requires { HoldsRead encoding packed.now }
     ensures read { result.0 ≡ read_in encoding packed.now }
-    ensures behind { result.1.now ≡ behind_read packed.now }
+    ensures after { result.1.now ≡ after_read packed.now }
 {
     let (title_len, lengths) = unpack_length(packed);
     let (bases, parts) = unpack_length(lengths);
     let (title, scored) = parts.split_at(title_len);
     let (seq, scores) = scored.split_at(bases);
-    let (qual, behind) = scores.split_at(bases);
-    (ReadView::new(encoding, title, seq, qual), behind)
+    let (qual, after) = scores.split_at(bases);
+    (ReadView::new(encoding, title, seq, qual), after)
 }
 
 // Returns the length in the first four bytes, and the bytes after them.
@@ -161,8 +161,8 @@ fn unpack_read(encoding: Encoding, packed: &[u8]) -> (ReadView<'_>, &[u8])
 fn unpack_length(packed: &[u8]) -> (usize, &[u8])
     requires { 4 ≤ length packed.now }
     ensures length { result.0 ≡ length_in packed.now }
-    ensures behind { result.1.now ≡ drop 4 packed.now }
+    ensures after { result.1.now ≡ drop 4 packed.now }
 {
-    let (bytes, behind) = packed.split_first_chunk::<4>().unwrap();
-    (u32::from_be_bytes(*bytes) as usize, behind)
+    let (bytes, after) = packed.split_first_chunk::<4>().unwrap();
+    (u32::from_be_bytes(*bytes) as usize, after)
 }

@@ -40,8 +40,8 @@ forward = codes "@p1/1\nACGT\n+\n#!II\n@p2/1\nGGCC\n+\nIIII\n"
 abbrev reverse : List ℕ
 reverse = codes "@p1/2\nTTTT\n+\nIIII\n@p2/2\nAAAA\n+\n!!!\"\n"
 
-abbrev mixed : List ℕ
-mixed = codes
+abbrev interleaved : List ℕ
+interleaved = codes
     "@p1/1\nACGT\n+\n#!II\n@p1/2\nTTTT\n+\nIIII\n@p2/1\nGGCC\n+\nIIII\n@p2/2\nAAAA\n+\n!!!\"\n"
 
 abbrev both : List Mates
@@ -69,11 +69,12 @@ all_forward = refl
 all_reverse : records Sanger reverse ≡ record { reads = reverse_reads both; fault = None }
 all_reverse = refl
 
-all_mixed : records Sanger mixed ≡ record { reads = alternating both; fault = None }
-all_mixed = refl
+all_interleaved : records Sanger interleaved ≡ record { reads = alternating both; fault = None }
+all_interleaved = refl
 
-mixed_pairs : interleaved_pairs true Sanger 0 mixed ≡ record { mates = both; fault = None }
-mixed_pairs = refl
+pairs_interleaved : interleaved_pairs true Sanger 0 interleaved
+    ≡ record { mates = both; fault = None }
+pairs_interleaved = refl
 
 one_pair : pairs true Sanger 0 forward (codes "@p1/2\nTTTT\n+\nIIII\n")
     ≡ record { mates = take 1 both; fault = Some (MateMissing Reverse 2) }

@@ -6,6 +6,7 @@ use Rattle.fq_law_progress.specs.Moves.{Move, put_start, close_start, give_up, w
 use Rattle.fq_law_progress.proofs.Seats.{changed_each, below_next}
 use Rattle.fq_law_progress.proofs.Turns.{turn_at, share, share_here, share_away, turn_below, share_less}
 use Rattle.fq_law_progress.proofs.Measure.{one_less, some_reply}
+use Rattle.std.proofs.lemmas.Grind.{common_steps}
 
 -- Of one seat.
 
@@ -124,21 +125,10 @@ worker_phase p s j q within begun holds quiet stays writes ph = (
   ph.2,
 )
 worker_phase p s j q within begun holds quiet stays drains ph = ph
-worker_phase p s j q within begun holds quiet stays awaits_dealer ph = (
-  ph.0,
-  changed_each (λ i seat. i < p.workers →
-      IsQuiet seat) j q s.seats (λ h. quiet (ph.1 j h)) (λ i other. ph.1 i),
-  ph.2,
-)
-worker_phase p s j q within begun holds quiet stays (awaits_workers k) ph = (
-  ph.0,
-  changed_each (λ i seat. i < p.workers →
-      IsQuiet seat) j q s.seats (λ h. quiet (ph.1 j h)) (λ i other. ph.1 i),
-  ph.2,
-  changed_each
-      (λ i seat. i < k → seat.doing ≡ left) j q s.seats (λ h. stays (ph.3 j h)) (λ i other. ph.3
-      i),
-)
+worker_phase p s j q within begun holds quiet stays awaits_dealer ph =
+    grind (arith, common_steps, changed_each, IsQuiet)
+worker_phase p s j q within begun holds quiet stays (awaits_workers k) ph =
+    grind (arith, common_steps, changed_each, IsQuiet)
 
 worker_moves : (p : Run) (s : State) (j : ℕ) (q : Seat) → IsKept p s → j < p.workers →
     ((s ≡ start) → ⊥)
@@ -196,13 +186,7 @@ dealer_moves p s d kept begun on few more no_more ended = record {
 taken_holds : (c d : ℕ) (q : Seat) (r : Reply) → q.doing ≡ takes → 0 < q.blocks → Holds c d q →
     Holds c d (with_block_taken q (answers r))
 taken_holds c d q r e some h =
-    let same : in_seat (with_block_taken q (answers r)) ≡ in_seat q = omega (arith, ap in_hand e) in
-    record {
-      most = omega (arith, same, h.most);
-      all =
-          ⊎_elim (λ x. inl x) (λ x. inr (omega (arith, same, x))) h.all;
-      stopped = λ x. cc;
-    }
+    grind (arith, common_steps, in_seat, in_hand)
 
 stop_stays : (rs : List Reply) (r : Reply) → has_stop rs ≡ true → has_stop (rs ++ r ∷ []) ≡ true
 stop_stays [] r h = cc
@@ -217,24 +201,9 @@ stop_comes (stop ∷ rs) = refl
 answered_holds : (c d : ℕ) (q : Seat) (r : Reply) → q.doing ≡ answers r → Holds c d q →
     Holds c d (with_reply q r)
 answered_holds c d q texts e h =
-    let same : in_seat (with_reply q texts) ≡ in_seat q =
-    omega (arith, ap in_hand e, length-append q.replies (texts ∷ [])) in
-    record {
-      most = omega (arith, same, h.most);
-      all =
-          ⊎_elim (λ x. inl (stop_stays q.replies texts x)) (λ x. inr (omega (arith, same, x)))
-          h.all;
-      stopped = λ x. cc;
-    }
+    grind (arith, common_steps, in_seat, in_hand, length-append, stop_stays)
 answered_holds c d q stop e h =
-    let same : in_seat (with_reply q stop) ≡ in_seat q =
-    omega (arith, ap in_hand e, length-append q.replies (stop ∷ [])) in
-    record {
-      most = omega (arith, same, h.most);
-      all = inl (stop_comes q.replies);
-      stopped =
-          λ x. stop_comes q.replies;
-    }
+    grind (arith, common_steps, in_seat, in_hand, length-append, stop_comes)
 
 emptied_holds : (c d : ℕ) (q : Seat) → q.doing ≡ empties → 0 < q.blocks → Holds c d q →
     Holds c d (with_block_taken q empties)
@@ -252,14 +221,7 @@ in_hand_none x (inr e) = ap in_hand e
 left_holds : (c d : ℕ) (q : Seat) → (q.doing ≡ takes) ⊎ (q.doing ≡ empties) → Holds c d q →
     Holds c d (record q { doing = left })
 left_holds c d q e h =
-    let same : in_seat (record q { doing = left }) ≡ in_seat q =
-    omega (arith, in_hand_none q.doing e) in
-    record {
-      most = omega (arith, same, h.most);
-      all =
-          ⊎_elim (λ x. inl x) (λ x. inr (omega (arith, same, x))) h.all;
-      stopped = λ x. cc;
-    }
+    grind (arith, common_steps, in_seat, in_hand_none)
 
 -- a worker that has neither left nor leaves now
 working_closes : (k i : ℕ) (q q' : Seat) → (q.doing ≡ left → ⊥) → (q'.doing ≡ left → ⊥) →
@@ -283,23 +245,15 @@ dealt_holds c d q h = record {
   stopped = h.stopped;
 }
 
-stop_behind : (rs : List Reply) → next_reply rs ≡ Some texts → has_stop (drop 1 rs) ≡ has_stop rs
-stop_behind [] e = cc
-stop_behind (texts ∷ rs) e = refl
-stop_behind (stop ∷ rs) e = cc
+stop_after : (rs : List Reply) → next_reply rs ≡ Some texts → has_stop (drop 1 rs) ≡ has_stop rs
+stop_after [] e = cc
+stop_after (texts ∷ rs) e = refl
+stop_after (stop ∷ rs) e = cc
 
 wrote_holds : (c d : ℕ) (q : Seat) → next_reply q.replies ≡ Some texts → Holds c d q →
     Holds (suc c) d (with_reply_taken q)
 wrote_holds c d q e h =
-    let less = one_less q.replies (some_reply texts q.replies e) in
-    let behind = stop_behind q.replies e in
-    record {
-      most = omega (arith, less, h.most);
-      all =
-          ⊎_elim (λ x. inl (behind ∙ x)) (λ x. inr (omega (arith, less, x))) h.all;
-      stopped =
-          λ x. behind ∙ h.stopped x;
-    }
+    grind (arith, common_steps, one_less, some_reply, stop_after)
 
 share_next : (workers n t : ℕ) → t ≡ turn_at workers n →
     share workers (suc n) t ≡ suc (share workers n t)
@@ -314,22 +268,13 @@ deals_all : (p : Run) (s : State) → s.deal_turn ≡ turn_at p.workers s.dealt 
     HoldAll p s.written s.dealt s.seats → HoldAll p s.written (suc s.dealt)
     (changed s.deal_turn (with_block (s.seats s.deal_turn)) s.seats)
 deals_all p s turn all =
-    changed_each (λ i seat. i < p.workers → Holds (share p.workers s.written i)
-    (share p.workers (suc s.dealt) i) seat) s.deal_turn (with_block (s.seats s.deal_turn))
-    s.seats
-    (λ h. rw (share_next p.workers s.dealt s.deal_turn turn)
-    (dealt_holds _ _ (s.seats s.deal_turn) (all s.deal_turn h)))
-    (λ i other h. rw (share_same p.workers s.dealt s.deal_turn i turn other) (all i h))
+    grind (arith, common_steps, changed_each, share, share_next, dealt_holds, share_same)
 
 writes_all : (p : Run) (s : State) → s.turn ≡ turn_at p.workers s.written →
     next_reply (s.seats s.turn).replies ≡ Some texts → HoldAll p s.written s.dealt s.seats →
     HoldAll p (suc s.written) s.dealt (changed s.turn (with_reply_taken (s.seats s.turn)) s.seats)
 writes_all p s turn next all =
-    changed_each (λ i seat. i < p.workers → Holds (share p.workers (suc s.written) i)
-    (share p.workers s.dealt i) seat) s.turn (with_reply_taken (s.seats s.turn)) s.seats
-    (λ h. rw (share_next p.workers s.written s.turn turn)
-    (wrote_holds _ _ (s.seats s.turn) next (all s.turn h)))
-    (λ i other h. rw (share_same p.workers s.written s.turn i turn other) (all i h))
+    grind (arith, common_steps, changed_each, share, share_next, wrote_holds, share_same)
 
 no_more_deals : (d : Dealer) (item : Bool) → d ≡ deals → DealsNoMore d item → ⊥
 no_more_deals d item e (inl h) = (let a = h.0 in cc)
@@ -406,56 +351,24 @@ takes_from p s c j q kept ends ph = record {
 pub keeps : (p : Run) (s : State) (m : Move) → IsRun p → IsKept p s → May p s m →
     IsKept p (after p s m)
 keeps p s put_start run kept may =
-    let e : s ≡ start = subst (Phase p s) may.0 kept.phase in
-    caller_moves p s closes_start true s.start_mark kept (
-      record { all = may.1; starts = λ x. refl },
-      subst (λ (x : State). HoldAll p x.written x.dealt
-          x.seats) (sym e) (λ i h. start_share p.workers i),
-    )
+    grind (arith, common_steps, Phase, caller_moves, HoldAll, start_share)
 keeps p s give_up run kept may =
-    let e : s ≡ start = subst (Phase p s) may.0 kept.phase in
-    caller_moves p s awaits_dealer s.start_item true kept (
-      inl (ap (λ (x : State). x.dealer) e, ap (λ (x : State). x.start_item) e),
-      subst
-          (λ (x : State). AreQuiet p x.seats) (sym e) (λ i h. inr (refl, refl)),
-      refl,
-    )
+    grind (arith, common_steps, Phase, caller_moves, AreQuiet)
 keeps p s close_start run kept may =
     let ph : Phase p s closes_start = subst (Phase p s) may kept.phase in
     caller_moves p s writes s.start_item true kept (ph.0, ph.1, refl)
 keeps p s write run kept may =
-    let ph : Phase p s writes = subst (Phase p s) may.0 kept.phase in
-    record {
-      deal_turn = kept.deal_turn;
-      turn = ap (λ t. suc t % p.workers) kept.turn;
-      closed = kept.closed;
-      marks = close_all p s.dealer s.seats s.turn (with_reply_taken (s.seats s.turn)) kept.marks
-          (taken_closes _ _ (s.seats s.turn));
-      phase = subst (Phase p (after p s write)) (sym may.0)
-          (let x : Phase p (after p s write) writes =
-          (ph.0, writes_all p s kept.turn may.2 ph.1, ph.2) in x);
-    }
+    grind (arith, common_steps, Phase, close_all, taken_closes, writes_all)
 keeps p s fail_to_write run kept may =
-    let ph : Phase p s writes = subst (Phase p s) may.0 kept.phase in
-    takes_from p s drains s.turn (with_reply_taken (s.seats s.turn)) kept
-    (taken_closes _ _ (s.seats s.turn)) (ph.0, ph.2)
+    grind (arith, common_steps, Phase, takes_from, taken_closes)
 keeps p s hear_stop run kept may =
-    let ph : Phase p s writes = subst (Phase p s) may.0 kept.phase in
-    takes_from p s drains s.turn (with_reply_taken (s.seats s.turn)) kept
-    (taken_closes _ _ (s.seats s.turn)) (ph.0, ph.2)
+    grind (arith, common_steps, Phase, takes_from, taken_closes)
 keeps p s find_mark run kept may =
-    let ph : Phase p s writes = subst (Phase p s) may.0 kept.phase in
-    takes_from p s drains s.turn (record (s.seats s.turn) { marked = true }) kept
-    (marked_closes _ _ (s.seats s.turn) may.2.closed) (ph.0, ph.2)
+    grind (arith, common_steps, Phase, takes_from, marked_closes)
 keeps p s (drop_reply j) run kept may =
-    takes_from p s s.caller j (with_reply_taken (s.seats j)) kept (taken_closes _ _ (s.seats j))
-    (subst (Phase p (after p s (drop_reply j))) (sym may.0) (let ph : Phase p s drains =
-    subst (Phase p s) may.0 kept.phase in ph))
+    grind (arith, common_steps, takes_from, taken_closes, Phase)
 keeps p s (drop_mark j) run kept may =
-    takes_from p s s.caller j (record (s.seats j) { marked = true }) kept
-    (marked_closes _ _ (s.seats j) may.3.closed)
-    (subst (Phase p (after p s (drop_mark j))) (sym may.0) (let ph : Phase p s drains =
-    subst (Phase p s) may.0 kept.phase in ph))
+    grind (arith, common_steps, takes_from, marked_closes, Phase)
 keeps p s end_drain run kept may =
     let ph : Phase p s drains = subst (Phase p s) may.0 kept.phase in
     let first : 0 < p.workers = omega (arith, run.some_workers) in
@@ -463,22 +376,13 @@ keeps p s end_drain run kept may =
     caller_moves p s awaits_dealer s.start_item s.start_mark kept
     (inr (closed_by s.dealer over), (λ i h. inl ((kept.marks i h).told (may.1 i h))), ph.1)
 keeps p s join_dealer run kept may =
-    let ph : Phase p s awaits_dealer = subst (Phase p s) may.0 kept.phase in
-    caller_moves p s (awaits_workers 0) s.start_item s.start_mark kept
-    (may.1, ph.1, omega arith, λ i h. absurd (omega arith))
+    grind (arith, common_steps, Phase, caller_moves)
 keeps p s (join_worker k) run kept may =
-    let ph : Phase p s (awaits_workers k) = subst (Phase p s) may.0 kept.phase in
-    caller_moves p s (awaits_workers (suc k)) s.start_item s.start_mark kept
-    (ph.0, ph.1, may.1, below_next (λ i. (s.seats i).doing ≡ left) k ph.3 may.2)
+    grind (arith, common_steps, Phase, caller_moves, below_next)
 keeps p s take_start run kept may =
-    dealer_moves p s deals kept (λ e. (let a = ap (λ (x : State). x.start_item) e in let b =
-    may.1 in cc)) (λ e. cc) (omega arith) (omega (arith, ap closed_lanes may.0))
-    (⊎_elim (λ h. (let a = h.1 in let b = may.1 in cc)) (λ h. (let a = h.1 in let b = may.0 in cc)))
-    (λ e. (let b = may.0 in cc))
+    grind (arith, common_steps, dealer_moves)
 keeps p s find_no_start run kept may =
-    dealer_moves p s (closes 0) kept (λ e. (let a = ap (λ (x : State). x.start_mark) e in let b =
-    may.2 in cc)) (λ e. cc) (omega arith) (omega (arith, ap closed_lanes may.0))
-    (λ h. inr (0, refl)) (λ e. (let b = may.0 in cc))
+    grind (arith, common_steps, dealer_moves)
 keeps p s deal run kept may =
     record {
       deal_turn = ap (λ t. suc t % p.workers) kept.deal_turn;
@@ -489,18 +393,11 @@ keeps p s deal run kept may =
       phase = deal_phase p s may.0 kept.deal_turn s.caller kept.phase;
     }
 keeps p s end_reading run kept may =
-    dealer_moves p s passes_start kept (λ e. (let a = ap (λ (x : State). x.dealer) e in let b =
-    may.0 in cc)) (λ e. cc) (omega arith) (omega (arith, ap closed_lanes may.0))
-    (λ h. absurd (no_more_deals s.dealer s.start_item may.0 h)) (λ e. (let b = may.0 in cc))
+    grind (arith, common_steps, dealer_moves, no_more_deals)
 keeps p s pass_start run kept may =
-    dealer_moves p s (closes 0) kept (λ e. (let a = ap (λ (x : State). x.dealer) e in let b =
-    may.0 in cc)) (λ e. cc) (omega arith) (omega (arith, ap closed_lanes may.0))
-    (λ h. inr (0, refl)) (λ e. (let b = may.0 in cc))
+    grind (arith, common_steps, dealer_moves)
 keeps p s (close_blocks k) run kept may =
-    dealer_moves p s (closes (suc k)) kept (λ e. (let a = ap (λ (x : State). x.dealer) e in let b =
-    may.0 in cc)) (λ e. cc) (omega (arith, may.1)) (omega (arith, ap closed_lanes may.0))
-    (λ h. inr (suc k, refl))
-    (λ e. absurd (omega (arith, may.1, ap closed_lanes may.0, ap closed_lanes e)))
+    grind (arith, common_steps, dealer_moves)
 keeps p s (take_block j r) run kept may =
     let q = s.seats j in
     worker_moves p s j (with_block_taken q (answers r)) kept (omega (arith, may.0, run.few_threads))

@@ -1,9 +1,10 @@
 -- Each move leaves less to be done.
 use Rattle.std.proofs.Common.{◌≡◌, ◌⊎◌, inl, inr, ℕ, zero, suc, ◌+◌, ◌*◌, ◌<◌, ◌≤◌, Bool, true, false, Some, List, [], ◌∷◌, length, drop, length-append, refl, ap, arith}
 use Rattle.fq_law_progress.specs.Model.{Run, IsRun, Reply, texts, stop, Doing, takes, answers, empties, left, Seat, State, changed, start}
-use Rattle.fq_law_progress.specs.Moves.{Move, put_start, close_start, give_up, write, fail_to_write, hear_stop, find_mark, drop_reply, drop_mark, end_drain, join_dealer, join_worker, take_start, find_no_start, deal, end_reading, pass_start, close_blocks, take_block, put_reply, empty_block, leave, after, AreMoves, after_all, next_reply, with_block, with_block_taken, with_reply, with_reply_taken}
+use Rattle.fq_law_progress.specs.Moves.{Move, put_start, close_start, give_up, write, fail_to_write, hear_stop, find_mark, drop_reply, drop_mark, end_drain, join_dealer, join_worker, take_start, find_no_start, deal, end_reading, pass_start, close_blocks, take_block, put_reply, empty_block, leave, after, AreMoves, after_all, next_reply, with_block_taken, with_reply, with_reply_taken}
 use Rattle.fq_law_progress.specs.Progress.{doing_left, mark_left, seat_left, seats_left, dealer_left, caller_left, moves_left, MovesLeaveLess, RunsAreShort}
 use Rattle.fq_law_progress.proofs.Seats.{left_changed}
+use Rattle.std.proofs.lemmas.Grind.{common_steps}
 
 -- a reply that is taken is one less
 pub one_less : (rs : List Reply) → 0 < length rs → suc (length (drop 1 rs)) ≡ length rs
@@ -51,87 +52,35 @@ leaves_less p s put_start run may = omega (arith, ap (caller_left p) may.0)
 leaves_less p s give_up run may = omega (arith, ap (caller_left p) may.0)
 leaves_less p s close_start run may = omega (arith, ap (caller_left p) may)
 leaves_less p s write run may =
-    let q = s.seats s.turn in
-    let less = seat_less p s.turn (with_reply_taken q) s.seats may.1
-    (omega (arith, reply_less q (some_reply texts q.replies may.2))) in
-    omega (arith, less, ap (caller_left p) may.0)
+    grind (arith, common_steps, seat_less, reply_less, some_reply)
 leaves_less p s fail_to_write run may =
-    let q = s.seats s.turn in
-    let less = seat_less p s.turn (with_reply_taken q) s.seats may.1
-    (omega (arith, reply_less q (some_reply texts q.replies may.2))) in
-    omega (arith, less, ap (caller_left p) may.0)
+    grind (arith, common_steps, seat_less, reply_less, some_reply)
 leaves_less p s hear_stop run may =
-    let q = s.seats s.turn in
-    let less = seat_less p s.turn (with_reply_taken q) s.seats may.1
-    (omega (arith, reply_less q (some_reply stop q.replies may.2))) in
-    omega (arith, less, ap (caller_left p) may.0)
+    grind (arith, common_steps, seat_less, reply_less, some_reply)
 leaves_less p s find_mark run may =
-    let q = s.seats s.turn in
-    let same : seat_left (record q { marked = true }) ≤ seat_left q =
-    omega (arith, no_mark_more q.marked) in
-    omega (
-      arith,
-      left_changed p.workers s.turn (record q { marked = true }) s.seats may.1,
-      same,
-      ap
-          (caller_left p) may.0,
-    )
+    grind (arith, common_steps, no_mark_more, left_changed)
 leaves_less p s (drop_reply j) run may =
-    omega (
-      arith,
-      seat_less p j (with_reply_taken (s.seats j)) s.seats may.1
-          (omega (arith, reply_less (s.seats j) may.2)),
-    )
+    grind (arith, common_steps, seat_less, reply_less)
 leaves_less p s (drop_mark j) run may =
-    omega (
-      arith,
-      seat_less p j (record (s.seats j) { marked = true }) s.seats may.1
-          (omega (arith, mark_less (s.seats j) may.2)),
-    )
+    grind (arith, common_steps, seat_less, mark_less)
 leaves_less p s end_drain run may = omega (arith, ap (caller_left p) may.0)
 leaves_less p s join_dealer run may = omega (arith, ap (caller_left p) may.0)
 leaves_less p s (join_worker k) run may = omega (arith, ap (caller_left p) may.0)
 leaves_less p s take_start run may = omega (arith, ap (dealer_left p) may.0)
 leaves_less p s find_no_start run may = omega (arith, ap (dealer_left p) may.0)
 leaves_less p s deal run may =
-    let q = s.seats s.deal_turn in
-    let more : seat_left (with_block q) ≡ seat_left q + 3 = omega arith in
-    omega (arith, left_changed p.workers s.deal_turn (with_block q) s.seats may.2, more, may.1)
+    grind (arith, common_steps, left_changed)
 leaves_less p s end_reading run may = omega (arith, ap (dealer_left p) may.0)
 leaves_less p s pass_start run may = omega (arith, ap (dealer_left p) may.0)
 leaves_less p s (close_blocks k) run may = omega (arith, ap (dealer_left p) may.0)
 leaves_less p s (take_block j r) run may =
-    omega (
-      arith,
-      seat_less p j (with_block_taken (s.seats j) (answers r)) s.seats
-          (omega (arith, run.few_threads)) (omega (
-            arith,
-            block_less (s.seats j) (answers r) may.2
-                (omega (arith, ap doing_left may.1)),
-          )),
-    )
+    grind (arith, common_steps, seat_less, block_less)
 leaves_less p s (put_reply j r) run may =
-    omega (
-      arith,
-      seat_less p j (with_reply (s.seats j) r) s.seats (omega (arith, run.few_threads))
-          (omega (arith, answered (s.seats j) r may.1)),
-    )
+    grind (arith, common_steps, seat_less, answered)
 leaves_less p s (empty_block j) run may =
-    omega (
-      arith,
-      seat_less p j (with_block_taken (s.seats j) empties) s.seats
-          (omega (arith, run.few_threads)) (omega (
-            arith,
-            block_less (s.seats j) empties may.2
-                (omega (arith, ap doing_left may.1)),
-          )),
-    )
+    grind (arith, common_steps, seat_less, block_less)
 leaves_less p s (leave j) run may =
-    omega (
-      arith,
-      seat_less p j (record (s.seats j) { doing = left }) s.seats
-          (omega (arith, run.few_threads)) (omega (arith, leaving (s.seats j) may.1)),
-    )
+    grind (arith, common_steps, seat_less, leaving)
 
 -- Runs.
 

@@ -1,9 +1,10 @@
 -- Seats of which one is changed.
-use Rattle.std.proofs.Common.{◌≡◌, ℕ, zero, suc, ◌+◌, ◌<◌, ◌≤◌, Bool, true, false, cond, ◌==◌, eqb-true, refl, sym, ap, ◌∙◌, subst, arith, below_more}
+use Rattle.std.proofs.Common.{◌≡◌, ℕ, zero, suc, ◌+◌, ◌<◌, ◌≤◌, Bool, true, false, cond, ◌==◌, eqb-true, refl, sym, ap, subst, arith, below_more}
 use Rattle.std.proofs.lemmas.Bool.{eqb-false, ne_eqb}
 use Rattle.std.proofs.lemmas.Bool.Decides.{nat_tests}
 use Rattle.fq_law_progress.specs.Model.{Seat, changed}
 use Rattle.fq_law_progress.specs.Progress.{seat_left, seats_left}
+use Rattle.std.proofs.lemmas.Grind.{common_steps}
 
 same_number : (j : ℕ) → (j == j) ≡ true
 same_number j = grind (arith, nat_tests)
@@ -30,9 +31,7 @@ left_outside : (n j : ℕ) (q : Seat) (seats : ℕ → Seat) → n ≤ j →
     seats_left n (changed j q seats) ≡ seats_left n seats
 left_outside zero j q seats h = refl
 left_outside (suc n) j q seats h =
-    let rest = left_outside n j q seats (omega arith) in
-    let here = ap seat_left (changed_away j q seats n (λ e. absurd (omega arith))) in
-    omega (arith, rest, here)
+    grind (arith, common_steps, changed_away, left_outside n j q seats)
 
 left_by : (n j : ℕ) (q : Seat) (seats : ℕ → Seat) → j < suc n →
     ((j < n) → seats_left n (changed j q seats) + seat_left (seats j) ≡ seats_left n
@@ -40,18 +39,9 @@ left_by : (n j : ℕ) (q : Seat) (seats : ℕ → Seat) → j < suc n →
     → (b : Bool) → (n == j) ≡ b → seats_left (suc n) (changed j q seats) + seat_left (seats j)
     ≡ seats_left (suc n) seats + seat_left q
 left_by n j q seats h below true e =
-    let same : n ≡ j = eqb-true n j e in
-    let rest = left_outside n j q seats (omega (arith, same)) in
-    let here : seat_left (changed j q seats n) ≡ seat_left q =
-    ap (λ k. seat_left (changed j q seats k)) same ∙ ap seat_left (changed_here j q seats) in
-    let there : seat_left (seats n) ≡ seat_left (seats j) = ap (λ k. seat_left (seats k)) same in
-    omega (arith, rest, here, there)
+    grind (arith, common_steps, eqb-true, left_outside, changed_here)
 left_by n j q seats h below false e =
-    let other : n ≡ j → ⊥ = eqb-false n j e in
-    let rest = below (omega (arith, other)) in
-    let here : seat_left (changed j q seats n) ≡ seat_left (seats n) =
-    ap seat_left (changed_away j q seats n other) in
-    omega (arith, rest, here)
+    grind (arith, common_steps, eqb-false, changed_away)
 
 -- a seat that is changed changes the sum
 pub left_changed : (n j : ℕ) (q : Seat) (seats : ℕ → Seat) → j < n →

@@ -69,19 +69,20 @@ both_pairs = refl
 
 -- An interleaved text.
 
-abbrev mixed : List ℕ
-mixed = forward ++ reverse
+abbrev interleaved : List ℕ
+interleaved = forward ++ reverse
 
-abbrev mixed_rest : List ℕ
-mixed_rest = forward_rest ++ reverse_rest
+abbrev interleaved_rest : List ℕ
+interleaved_rest = forward_rest ++ reverse_rest
 
-is_mixed_part : IsPart InterleavedText true Sanger 0 mixed mixed
-is_mixed_part = record { forward_whole = refl; reverse_whole = refl; sound = refl }
+is_interleaved_part : IsPart InterleavedText true Sanger 0 interleaved interleaved
+is_interleaved_part = record { forward_whole = refl; reverse_whole = refl; sound = refl }
 
-both_mixed_pairs :
-    pairs_in InterleavedText true Sanger 0 (mixed ++ mixed_rest) (mixed ++ mixed_rest)
+both_interleaved_pairs :
+    pairs_in InterleavedText true Sanger 0 (interleaved ++ interleaved_rest)
+        (interleaved ++ interleaved_rest)
     ≡ record { mates = first ++ rest; fault = None }
-both_mixed_pairs = refl
+both_interleaved_pairs = refl
 
 -- The outputs for forward reads, and the reverse reads that the step dropped.
 

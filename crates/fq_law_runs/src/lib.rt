@@ -1,5 +1,5 @@
 //! The laws of `fq_law_in_step`, of runs: what outlets have taken is in step. Those of files are
-//! clauses of `program` of `fq_app`. And the law that a sample may be trimmed in parts.
+//! fields of `RequestAnswered` in `fq_app`. And the law that a sample may be trimmed in parts.
 //!
 //! Each function of this crate has no parameters and does nothing. Its contract is a law about the
 //! definitions that the contracts of the other crates use, so it holds for every run. The laws of

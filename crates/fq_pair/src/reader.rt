@@ -13,7 +13,9 @@ use crate::pair_source::PairSource;
 use fq_text::Feed;
 
 /// A source of pairs, in order: of two texts ([`PairSource`]), or of an interleaved one
-/// ([`MixedSource`]).
+/// ([`MixedSource`]). Each has methods that do the same (`advance`, `pair`, `names`), whose clauses
+/// speak of its feeds. Those of the trait have other names, so a call shows by which clauses it
+/// goes.
 pub trait PairReader {
     /// The source as contracts see it: its form, the bytes in hand and to come of each side, and
     /// the counts so far.

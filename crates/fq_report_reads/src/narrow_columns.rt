@@ -156,7 +156,8 @@ impl NarrowColumns {
         self.clear_each(count);
     }
 
-    // Sets all rows of each column to 0.
+    // Sets all rows of each column to 0. Its contract has the eight columns in one fact, from which
+    // the proof of `clear` goes on.
     fn clear_each(&mut self, count: usize)
         requires few { AreFew count count most_reads self.old }
         ensures { AreCleared self.old self.new }

@@ -15,7 +15,8 @@ use std::alloc::Global;
 use std::marker::Model;
 
 // After this many reads the counts in `narrow` are added to the totals, so that none of its 8-bit
-// counts overflows.
+// counts overflows. It is less than 255, because the last vector of a read covers positions again
+// that its other vectors have counted: it adds 0 there, but the bound is that of adding 1.
 const MOST_READS: usize = 254;
 
 // `narrow` gets rows for so many positions at a time.

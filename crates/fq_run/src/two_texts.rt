@@ -158,6 +158,7 @@ fn ending_of<F: Feed, G: Feed>(
     } = conclusion;
     let (names, forward, reverse) = match source {
         Some(source) => {
+            // They are only for the reason, so a run doesn't fail for want of memory for them.
             let names = source.unmatched_names(alloc).unwrap_or(None);
             let (forward, reverse) = source.into_feeds();
             (names, Some(forward), Some(reverse))

@@ -103,6 +103,7 @@ fn pass<F: Feed, G: Feed, O: Outlet>(
     match open(alloc, settings, forward, reverse) {
         Ok(mut source) => Pass {
             written: write_blocks(alloc, settings, &mut source, outlets),
+            // They are only for the reason, so a run doesn't fail for want of memory for them.
             unmatched: source.unmatched_names(alloc).unwrap_or(None),
             feeds: source.into_feeds(),
         },

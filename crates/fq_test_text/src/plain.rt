@@ -174,7 +174,7 @@ fn quality(
 }
 
 // The lines from this one on.
-fn behind(lines: &[Vec<u8>], first: usize) -> &[Vec<u8>] {
+fn after(lines: &[Vec<u8>], first: usize) -> &[Vec<u8>] {
     lines.get(first..).unwrap_or(&[])
 }
 
@@ -186,7 +186,7 @@ fn before(lines: &[Vec<u8>], end: usize) -> &[Vec<u8>] {
 // The record at the front of the lines, which has number k, or `None` at the end.
 fn front(alloc: Global, encoding: Encoding, lines: &[Vec<u8>], k: u64) -> Result<Front, Fail> {
     let skipped = empty_lines(lines);
-    let Some((title, rest)) = behind(lines, skipped).split_first() else {
+    let Some((title, rest)) = after(lines, skipped).split_first() else {
         return Ok(Ok(None));
     };
     if let Some(fault) = title_fault(title, k) {
@@ -197,7 +197,7 @@ fn front(alloc: Global, encoding: Encoding, lines: &[Vec<u8>], k: u64) -> Result
         Ok(seq) => seq,
         Err(fault) => return Ok(Err(fault)),
     };
-    let Some((plus, rest)) = behind(rest, bases).split_first() else {
+    let Some((plus, rest)) = after(rest, bases).split_first() else {
         return Ok(Err(TextFault::NoPlus(k)));
     };
     if let Some(fault) = plus_fault(title, plus, k) {
@@ -279,7 +279,7 @@ fn same_records(
         let Some(taken) = same_next(rt, alloc, rest, k, source, encoding)? else {
             break;
         };
-        rest = behind(rest, taken);
+        rest = after(rest, taken);
         records = records.saturating_add(1);
     }
     Ok(records)

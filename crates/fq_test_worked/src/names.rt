@@ -91,31 +91,31 @@ pub fn decode(alloc: Global, names: &Names<'_>, text: &str) -> Result<Vec<u8>> {
 
 // Appends what a part after a backslash stands for, then the rest of the part.
 fn put_escaped(out: &mut Vec<u8>, names: &Names<'_>, part: &str) -> Result<()> {
-    let behind = if let Some(behind) = part.strip_prefix('n') {
+    let after = if let Some(after) = part.strip_prefix('n') {
         out.push(b'\n')?;
-        behind
-    } else if let Some(behind) = part.strip_prefix('r') {
+        after
+    } else if let Some(after) = part.strip_prefix('r') {
         out.push(b'\r')?;
-        behind
-    } else if let Some(behind) = part.strip_prefix('t') {
+        after
+    } else if let Some(after) = part.strip_prefix('t') {
         out.push(b'\t')?;
-        behind
-    } else if let Some((byte, behind)) = within(part, '{', '}') {
+        after
+    } else if let Some((byte, after)) = within(part, '{', '}') {
         out.push(byte.parse::<u8>()?)?;
-        behind
-    } else if let Some((name, behind)) = within(part, '<', '>') {
+        after
+    } else if let Some((name, after)) = within(part, '<', '>') {
         out.extend_from_slice(names.get(name)?)?;
-        behind
-    } else if let Some((said, behind)) = within(part, '(', ')') {
+        after
+    } else if let Some((said, after)) = within(part, '(', ')') {
         put_times(out, names, said)?;
-        behind
-    } else if let Some((said, behind)) = within(part, '[', ']') {
+        after
+    } else if let Some((said, after)) = within(part, '[', ']') {
         put_front(out, names, said)?;
-        behind
+        after
     } else {
         bail!("nothing is written as a backslash and {part:?}")
     };
-    out.extend_from_slice(behind.as_bytes())?;
+    out.extend_from_slice(after.as_bytes())?;
     Ok(())
 }
 

@@ -1,4 +1,4 @@
-use Rattle.std.proofs.Common.{Bool, true, false, ◌≡◌, ℕ, ◌≤◌, ◌⊎◌, ◌<◌, inl, refl, arith, List, [], ◌∷◌, drop, ◌++◌, ap, Some, ⊎_elim, length, ◌∙◌, subst, inr, sym, suc}
+use Rattle.std.proofs.Common.{Bool, true, false, ◌≡◌, ℕ, ◌≤◌, ◌⊎◌, ◌<◌, inl, refl, arith, List, [], ◌∷◌, drop, ◌++◌, ap, Some, ◌∙◌, subst, inr, sym, suc}
 use Rattle.fq_law_progress.specs.Model.{texts, stop, Doing, takes, answers, empties, left, Seat, Run, Dealer, awaits_start, deals, passes_start, closes, Caller, begins, closes_start, writes, drains, awaits_dealer, awaits_workers, State, start, changed, Reply, closed_lanes, IsRun}
 use Rattle.fq_law_progress.specs.Moves.{with_reply_taken, with_reply, next_reply, find_mark, May, Move, put_start, close_start, give_up, write, fail_to_write, hear_stop, drop_reply, drop_mark, end_drain, join_dealer, join_worker, take_start, find_no_start, deal, end_reading, pass_start, close_blocks, take_block, put_reply, empty_block, leave, after, is_failure, with_block, with_block_taken, AreMoves, after_all}
 use Rattle.fq_law_progress.specs.Progress.{HaveNoFailure, AllIsWritten}
@@ -6,6 +6,7 @@ use Rattle.fq_law_progress.proofs.Kept.{has_stop, Phase, IsKept, in_hand, in_sea
 use Rattle.fq_law_progress.proofs.Seats.{changed_each}
 use Rattle.fq_law_progress.proofs.Turns.{share}
 use Rattle.fq_law_progress.proofs.all_is_written.Goals as goal
+use Rattle.std.proofs.lemmas.Grind.{common_steps}
 
 -- Without a failure every block is written.
 
@@ -62,10 +63,10 @@ calm_all : (p : Run) (j : ℕ) (q : Seat) (seats : ℕ → Seat) →
 calm_all p j q seats all here = changed_each (λ i seat. i < p.workers → IsCalm seat) j q seats
     (λ h. here (all j h)) (λ i other. all i)
 
-no_stop_behind : (rs : List Reply) → has_stop rs ≡ false → has_stop (drop 1 rs) ≡ false
-no_stop_behind [] e = refl
-no_stop_behind (texts ∷ rs) e = e
-no_stop_behind (stop ∷ rs) e = cc
+no_stop_after : (rs : List Reply) → has_stop rs ≡ false → has_stop (drop 1 rs) ≡ false
+no_stop_after [] e = refl
+no_stop_after (texts ∷ rs) e = e
+no_stop_after (stop ∷ rs) e = cc
 
 no_stop_more : (rs : List Reply) → has_stop rs ≡ false → has_stop (rs ++ texts ∷ []) ≡ false
 no_stop_more [] e = refl
@@ -75,7 +76,7 @@ no_stop_more (stop ∷ rs) e = cc
 calm_taken : (q : Seat) → IsCalm q → IsCalm (with_reply_taken q)
 calm_taken q c = record {
   doing = c.doing;
-  replies = no_stop_behind q.replies c.replies;
+  replies = no_stop_after q.replies c.replies;
   empty =
       c.empty;
 }
@@ -109,16 +110,7 @@ all_dealt p (closes k) dealt i h within = h
 written_at_mark : (p : Run) (s : State) → IsRun p → IsKept p s → IsSound p s → May p s find_mark →
     s.written ≡ p.blocks
 written_at_mark p s run kept sound may =
-    let ph : Phase p s writes = subst (Phase p s) may.0 kept.phase in
-    let q = s.seats s.turn in
-    let c = sound.calm s.turn may.1 in
-    let nothing : in_seat q ≡ 0 =
-    omega (arith, ap length may.2.empty, ap in_hand may.2.closed, c.empty may.2.closed) in
-    let few : share p.workers s.dealt s.turn ≤ share p.workers s.written s.turn =
-    ⊎_elim (λ stopped. absurd (let a = c.replies in cc)) (λ all. omega (arith, all, nothing))
-    (ph.1 s.turn may.1).all in
-    all_written p s run kept ph.1 few ∙ all_dealt p s.dealer s.dealt s.turn sound.dealt
-    ((kept.marks s.turn may.1).over may.2.closed)
+    grind (arith, common_steps, Phase, in_seat, in_hand, share, all_written, all_dealt)
 
 -- the same caller and dealer, and one seat changed
 sound_at : (p : Run) (s : State) (j : ℕ) (q : Seat) → IsSound p s →
@@ -202,11 +194,8 @@ stays_sound p s take_start run all kept sound may safe =
           subst (λ d. Dealt p d s.dealt) may.0 sound.dealt;
       written = sound.written;
     }
-stays_sound p s find_no_start run all kept sound may safe = absurd (⊎_elim
-    (λ e. (let same : s ≡ start = subst (Phase p s) e kept.phase in let a =
-    ap (λ (x : State). x.start_mark) same in let b = may.2 in cc))
-    (λ e. (let b = may.1 in cc))
-    sound.begun)
+stays_sound p s find_no_start run all kept sound may safe =
+    grind (arith, common_steps, Phase)
 stays_sound p s deal run all kept sound may safe = record {
   calm = calm_all p s.deal_turn (with_block (s.seats s.deal_turn)) s.seats sound.calm
       (λ c. record {
@@ -246,12 +235,7 @@ stays_sound p s (close_blocks k) run all kept sound may safe =
       written = sound.written;
     }
 stays_sound p s (take_block j texts) run all kept sound may safe =
-    sound_at p s j (with_block_taken (s.seats j) (answers texts)) sound (λ c. record {
-      doing =
-          refl;
-      replies = c.replies;
-      empty = λ e. cc;
-    })
+    grind (arith, common_steps, sound_at)
 stays_sound p s (take_block j stop) run all kept sound may safe = absurd cc
 stays_sound p s (put_reply j r) run all kept sound may safe =
     sound_at p s j (with_reply (s.seats j) r) sound (calm_answered (s.seats j) r may.1)
@@ -259,12 +243,7 @@ stays_sound p s (empty_block j) run all kept sound may safe =
     sound_at p s j (with_block_taken (s.seats j) empties) sound (λ c. absurd (let a =
     ap is_calm may.1 in let b = c.doing in cc))
 stays_sound p s (leave j) run all kept sound may safe =
-    sound_at p s j (record (s.seats j) { doing = left }) sound (λ c. record {
-      doing =
-          refl;
-      replies = c.replies;
-      empty = λ e. may.2;
-    })
+    grind (arith, common_steps, sound_at)
 
 -- The end of a run.
 
@@ -279,9 +258,7 @@ ended_from p s (m ∷ ms) run all kept sound are none =
 -- without a failure, and with all threads, a run that has ended has written every block
 writes_all_blocks : AllIsWritten
 writes_all_blocks p moves run all are none ended =
-    let s = after_all p start moves in
-    let sound = ended_from p start moves run all (kept_start p) (sound_start p) are none in
-    subst (λ c. Written p c s.written) ended.caller sound.written
+    grind (arith, common_steps, ended_from, kept_start, sound_start, Written)
 
 -- without a failure, and with all threads, a run that has ended has written every block
 pub returns : goal.returns

@@ -1,12 +1,13 @@
-use Rattle.std.proofs.Common.{◌⊎◌, inl, inr, ⊎_elim, ℕ, ◌<◌, ◌≤◌, arith, ◌≡◌, length, refl, Bool, true, false, ap, [], sym, ◌∙◌, List, ◌∷◌, suc, zero}
+use Rattle.std.proofs.Common.{◌⊎◌, inl, inr, ⊎_elim, ℕ, ◌<◌, ◌≤◌, arith, ◌≡◌, length, refl, Bool, true, false, ap, [], ◌∙◌, List, ◌∷◌, suc, zero}
 use Rattle.std.proofs.lemmas.Bool.{cases_order}
-use Rattle.fq_law_progress.specs.Model.{Run, Reply, takes, answers, empties, left, State, closed_lanes, texts, Doing, deals, awaits_start, Dealer, passes_start, closes, IsRun, writes, stop, Seat, drains, awaits_dealer, awaits_workers, Caller, begins, closes_start, start}
+use Rattle.fq_law_progress.specs.Model.{Run, Reply, takes, answers, empties, left, State, closed_lanes, texts, Doing, deals, awaits_start, Dealer, passes_start, closes, IsRun, writes, stop, Seat, drains, awaits_dealer, awaits_workers, Caller, begins, closes_start}
 use Rattle.fq_law_progress.specs.Moves.{leave, take_block, put_reply, empty_block, take_start, find_no_start, deal, end_reading, pass_start, close_blocks, write, hear_stop, find_mark, next_reply, drop_reply, drop_mark, end_drain, join_dealer, join_worker, put_start, close_start, give_up, Move, after, AreMoves, after_all}
 use Rattle.fq_law_progress.specs.Progress.{CanGoOn, HasEnded, NeverStuck}
 use Rattle.fq_law_progress.proofs.Kept.{in_hand, Phase, IsKept, in_seat, has_stop, keeps, kept_start, all_written}
 use Rattle.fq_law_progress.proofs.Turns.{turn_at, turn_below}
 use Rattle.fq_law_progress.proofs.Seats.{below_next}
 use Rattle.fq_law_progress.proofs.runs_never_get_stuck.Goals as goal
+use Rattle.std.proofs.lemmas.Grind.{common_steps}
 
 -- two numbers in order
 order : (a b : ℕ) → (a < b) ⊎ (b ≤ a)
@@ -76,15 +77,7 @@ starves : (p : Run) (s : State) → IsRun p → IsKept p s → s.turn < p.worker
     (s.seats s.turn).replies ≡ [] → ((s.seats s.turn).doing ≡ takes) ⊎ ((s.seats s.turn).doing
     ≡ empties) → (s.seats s.turn).blocks ≡ 0 → p.depth ≤ (s.seats s.deal_turn).blocks → ⊥
 starves p s run kept here ph is doing none full =
-    let nothing : in_seat (s.seats s.turn) ≡ 0 =
-    omega (arith, ap length is, idle_hand (s.seats s.turn).doing doing, none) in
-    ⊎_elim
-    (λ stopped. (let a = ap has_stop is in cc))
-    (λ all. (let same : s.turn ≡ s.deal_turn = kept.turn
-    ∙ ap (turn_at p.workers) (all_written p s run kept ph.1 (omega (arith, all, nothing)))
-    ∙ sym kept.deal_turn in
-    omega (arith, full, none, ap (λ t. (s.seats t).blocks) same, run.some_room)))
-    (ph.1 s.turn here).all
+    grind (arith, common_steps, in_seat, idle_hand, has_stop, turn_at, all_written)
 
 writes_on : (p : Run) (s : State) → IsRun p → IsKept p s → s.caller ≡ writes → s.turn < p.workers →
     s.deal_turn < p.workers → Phase p s writes → (rs : List Reply) → (s.seats s.turn).replies ≡ rs →
@@ -219,9 +212,7 @@ by_caller p s run kept writes e ph =
     (turn_below p.workers s.dealt run.some_workers) in
     inr (writes_on p s run kept e here there ph (s.seats s.turn).replies refl)
 by_caller p s run kept drains e ph =
-    let there : s.deal_turn < p.workers = rw kept.deal_turn
-    (turn_below p.workers s.dealt run.some_workers) in
-    inr (drains_on p s run kept e ph there)
+    grind (arith, common_steps, turn_below, drains_on)
 by_caller p s run kept awaits_dealer e ph = inr (joins_dealer p s kept e ph)
 by_caller p s run kept (awaits_workers k) e ph = joins_workers p s k run e ph
 
@@ -235,9 +226,7 @@ kept_all p s (m ∷ ms) run kept are = kept_all p (after p s m) ms run (keeps p 
 -- every state that a run can reach is its end, or some thread has a move
 never_stuck : NeverStuck
 never_stuck p moves run are =
-    let s = after_all p start moves in
-    let kept = kept_all p start moves run (kept_start p) are in
-    by_caller p s run kept s.caller refl kept.phase
+    grind (arith, common_steps, kept_all, kept_start, by_caller)
 
 -- every state that a run can reach is its end, or some thread has a move
 pub returns : goal.returns

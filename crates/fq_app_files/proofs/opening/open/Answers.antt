@@ -4,7 +4,7 @@ use Rattle.fq_files.specs.States.{FilesState}
 use Rattle.fq_files.proofs.StateLemmas.{same_as, told_as, told_before}
 use Rattle.fq_app_words.specs.Requests.{asking_of}
 use Rattle.fq_app_files.specs.Trimming.{opened_of}
-use Rattle.fq_app_files.proofs.LeavingLemmas.{leaves_since, report_behind, report_refused, unchanged_or_nothing}
+use Rattle.fq_app_files.proofs.LeavingLemmas.{leaves_since, report_after, report_refused, unchanged_or_nothing}
 use Rattle.fq_app_files.proofs.MakingLemmas.{five_empty, five_held, report_unmade, rest_made, still_empty}
 use Rattle.fq_app_files.proofs.OpeningLemmas.{leads_nowhere, late_status, refusable_since, refused_late, report_late, still_there}
 use Rattle.fq_app_files.proofs.opening.open.Goals as goal
@@ -19,7 +19,7 @@ returns-in_err-outlets-clause-unopened g c =
     let outputs = c.in_err-outlets.ensures in
     let same = same_as _ _ inputs.kept in
     rw (p.1, p.2) (refused_late a _ _ _ (opened_of g.T.In.Feed.state c.in_ok-feeds.feeds)
-    outputs.refused.behind outputs.refused.late
+    outputs.refused.after outputs.refused.late
     (refusable_since a (g.T.Files.state c.args.files.now) _ _ _
     (ap (λ (files : FilesState). files.refuses) inputs.kept) inputs.linked
     outputs.refused.refused) inputs.opened.fed
@@ -28,7 +28,7 @@ returns-in_err-outlets-clause-unopened g c =
     leaves_since a _ _ _ _ same (outputs.refused.unmade told_2).leaves)
     (λ told name named free.
     let told_2 = told_as _ _ outputs.kept (told_as _ _ inputs.kept told) in
-    report_behind _ _ _ ((outputs.refused.unmade told_2).rest name free ∙ same name))
+    report_after _ _ _ ((outputs.refused.unmade told_2).rest name free ∙ same name))
     (λ told name free other.
     let told_2 = told_as _ _ outputs.kept (told_as _ _ inputs.kept told) in
     (outputs.refused.unmade told_2).rest name free ∙ same name))
@@ -42,10 +42,10 @@ returns-in_err-report-clause-unopened g c =
     let inputs = c.in_ok-feeds.ensures in
     let outputs = c.in_ok-outlets.ensures in
     let report = c.in_err-report.ensures in
-    let behind = report_late _ report.refused.why_is in
+    let after = report_late _ report.refused.why_is in
     let same = same_as _ _ inputs.kept in
     rw (p.1, p.2) (refused_late a _ _ _ (opened_of g.T.In.Feed.state c.in_ok-feeds.feeds)
-    behind (late_status _ behind)
+    after (late_status _ after)
     (refusable_since a (g.T.Files.state c.args.files.now) _ _ _
     (ap (λ (files : FilesState). files.refuses) outputs.kept
     ∙ ap (λ (files : FilesState). files.refuses) inputs.kept)

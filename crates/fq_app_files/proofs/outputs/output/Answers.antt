@@ -45,5 +45,5 @@ returns-clause-refused g c =
           (rw failed at c.target.ensures.refused) is;
       refused = output_refused (asking_of c.args.request.now) c.args.out _ named _ fault why
           (λ cause refused. c.target.ensures.rightly cause (failed ∙ ap Err refused)) said;
-      behind = output_late c.args.out why is;
+      after = output_late c.args.out why is;
     })
