@@ -5,7 +5,7 @@ use Rattle.fq_files.specs.declared.files.Cause.{Cause}
 use Rattle.fq_files.specs.declared.files.Cause.TheVariants.{System, Input, Output}
 use Rattle.fq_pair.specs.Forms.{Form, TwoTexts, InterleavedText}
 use Rattle.fq_app_words.specs.Requests.{InputNames}
-use Rattle.fq_app_reasons.specs.declared.causes.TheConstants.{ERROR_WORDS}
+use Rattle.fq_app_reasons.specs.declared.causes.TheConstants.{ERROR_WORDS, ALSO_OUTPUT}
 
 -- the words for a number of Linux; empty if it has none
 abbrev pub known_words : ℕ → List ℕ
@@ -28,7 +28,7 @@ device_words None others = others
 abbrev pub source_reason : Cause → List ℕ
 source_reason (System error) = error_words error
 source_reason Input = codes "it is given twice"
-source_reason Output = codes "it is also an output"
+source_reason Output = ALSO_OUTPUT.now
 
 -- the output leads to an input under another name
 abbrev pub leads_reason : InputNames → Form → List ℕ
@@ -40,4 +40,4 @@ leads_reason inputs InterleavedText = codes "it leads to the input " ++ inputs.f
 abbrev pub target_reason : InputNames → Cause → List ℕ
 target_reason inputs (System error) = error_words error
 target_reason inputs Input = leads_reason inputs inputs.form
-target_reason inputs Output = codes "it is also an output"
+target_reason inputs Output = ALSO_OUTPUT.now

@@ -15,10 +15,11 @@ use Rattle.fq_pair.specs.Mates.{MateNames}
 use Rattle.fq_pair.specs.Forms.{Form, TwoTexts, InterleavedText}
 use Rattle.fq_run_core.specs.declared.outcome.Outcome.{Outcome}
 use Rattle.fq_run_core.specs.declared.outcome.Outcome.TheVariants.{Spawn, Lane, Gate, Memory, Write, Read, Endless, Input, Finished}
+use Rattle.fq_run_core.specs.declared.settings.TheConstants.{CALL_LIMIT}
 use Rattle.fq_app_words.specs.Requests.{Asking, InputNames, input_name, output_name}
 use Rattle.fq_app_files.specs.declared.seeing.EndingSeen.{EndingSeen}
 use Rattle.fq_app_reasons.specs.Causes.{device_words}
-use Rattle.fq_app_reasons.specs.declared.ended.TheConstants.{NAME_BYTES}
+use Rattle.fq_app_reasons.specs.declared.ended.TheConstants.{NAME_BYTES, MEMORY_REASON, NOT_READ}
 
 -- what is wrong with a file
 abbrev pub file_reason : List ℕ → List ℕ → List ℕ
@@ -68,7 +69,7 @@ record_reason encoding look (text.QualityShort k) =
     codes "the file ends before the quality is as long as the sequence"
 record_reason encoding look (text.TooLong k) =
     codes "a line or the sequence has more than 1048576 bytes"
-record_reason encoding look text.Read = codes "it could not be read to its end"
+record_reason encoding look text.Read = NOT_READ.now
 record_reason encoding look text.Endless = codes "it does not end"
 record_reason encoding look text.OutOfMemory = codes "memory was refused"
 
@@ -143,8 +144,7 @@ spawn_reason threads = codes "--threads is " ++ decimal threads
 
 -- what was known when memory was refused in a run
 abbrev pub memory_reason : List ℕ
-memory_reason =
-    codes "it was refused while pairs were trimmed; smaller --threads, --block or --depth take less"
+memory_reason = MEMORY_REASON.now
 
 -- what a lane that is not confirmed means for the outputs
 abbrev pub lane_reason : List ℕ
@@ -155,9 +155,9 @@ abbrev pub ending_reason : Asking → EndingSeen → Outcome → Option (List �
 ending_reason a seen (Write out) =
     Some (written_reason (unwrap_or (output_name a out) []) seen.error)
 ending_reason a seen (Read side) = Some (file_reason (input_name a.inputs side)
-    (device_words seen.error (codes "it could not be read to its end")))
+    (device_words seen.error NOT_READ.now))
 ending_reason a seen (Endless side) = Some (file_reason (input_name a.inputs side)
-    (codes "it has not ended after 1099511627776 read calls"))
+    (codes "it has not ended after " ++ decimal CALL_LIMIT ++ codes " read calls"))
 ending_reason a seen (Input fault) = Some (input_reason a seen fault)
 ending_reason a seen Spawn = Some (spawn_reason a.threads)
 ending_reason a seen Memory = Some memory_reason

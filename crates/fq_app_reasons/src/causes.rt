@@ -10,6 +10,9 @@ use fq_files::Cause;
 use fq_text::{OutOfMemory, SystemError};
 use std::alloc::Global;
 
+/// Why a file is refused that is an output.
+pub(crate) const ALSO_OUTPUT: &str = "it is also an output";
+
 /// The words for the errors of Linux, by their numbers from 0 on. They are those of the C library,
 /// but for a directory, and for 0, which stands for no number. Two numbers are of no error.
 pub(crate) const ERROR_WORDS: [&str; 134] = [
@@ -156,7 +159,7 @@ pub(crate) fn source_reason(alloc: Global, cause: Cause) -> Result<String, OutOf
     match cause {
         Cause::System(error) => error_words(alloc, error),
         Cause::Input => String::from_str(alloc, "it is given twice"),
-        Cause::Output => String::from_str(alloc, "it is also an output"),
+        Cause::Output => String::from_str(alloc, ALSO_OUTPUT),
     }
 }
 
@@ -172,7 +175,7 @@ pub(crate) fn target_reason(
     match cause {
         Cause::System(error) => error_words(alloc, error),
         Cause::Input => leads_reason(alloc, inputs),
-        Cause::Output => String::from_str(alloc, "it is also an output"),
+        Cause::Output => String::from_str(alloc, ALSO_OUTPUT),
     }
 }
 

@@ -1,6 +1,6 @@
 //! Why a run ended before all pairs were trimmed.
 
-ghost use Rattle.std.specs.Prelude.{◌≡◌, ◌<◌, ◌++◌, ℕ, IfOk, Some, codes};
+ghost use Rattle.std.specs.Prelude.{◌≡◌, ◌<◌, ◌++◌, ℕ, IfOk, Some, codes, decimal};
 ghost use Rattle.std.specs.Option.{option_map};
 ghost use Rattle.std.specs.String.{string_bytes};
 ghost use Rattle.fq_app_words.specs.Requests.{asking_of, names_of};
@@ -10,13 +10,16 @@ use crate::causes::device_words;
 use fq_app_files::EndingSeen;
 use fq_app_words::{Inputs, Request};
 use fq_pair::{InputFault, Side, UnmatchedNames};
-use fq_run_core::Outcome;
+use fq_run_core::{CALL_LIMIT, Outcome};
 use fq_text::{Look, OutOfMemory, SystemError, TextFault};
 use std::alloc::Global;
 
-// What was known when memory was refused in a run.
-const MEMORY_REASON: &str =
+/// What was known when memory was refused in a run.
+pub(crate) const MEMORY_REASON: &str =
     "it was refused while pairs were trimmed; smaller --threads, --block or --depth take less";
+
+/// What is known of a read that failed, if the system gives no error.
+pub(crate) const NOT_READ: &str = "it could not be read to its end";
 
 /// The most bytes of a name that a reason shows.
 pub(crate) const NAME_BYTES: usize = 100;
@@ -37,12 +40,12 @@ pub(crate) fn ending_reason(
             Ok(Some(written_reason(alloc, name, seen.error)?))
         }
         Outcome::Read(side) => {
-            let words = device_words(alloc, seen.error, "it could not be read to its end")?;
+            let words = device_words(alloc, seen.error, NOT_READ)?;
             Ok(Some(file_reason(alloc, request.input_name(side), words.as_str())?))
         }
         Outcome::Endless(side) => {
-            let words = "it has not ended after 1099511627776 read calls";
-            Ok(Some(file_reason(alloc, request.input_name(side), words)?))
+            let words = endless_words(alloc)?;
+            Ok(Some(file_reason(alloc, request.input_name(side), words.as_str())?))
         }
         Outcome::Input(fault) => Ok(Some(input_reason(alloc, request, seen, fault)?)),
         Outcome::Spawn => Ok(Some(spawn_reason(alloc, request.threads)?)),
@@ -50,6 +53,14 @@ pub(crate) fn ending_reason(
         Outcome::Lane => Ok(Some(String::from_str(alloc, "the outputs may lack pairs")?)),
         Outcome::Gate | Outcome::Finished => Ok(None),
     }
+}
+
+// How often an input was read that has not ended.
+fn endless_words(alloc: Global) -> Result<String, OutOfMemory>
+    ensures { IfOk result (λ text. string_bytes text
+        ≡ codes "it has not ended after " ++ decimal CALL_LIMIT ++ codes " read calls") }
+{
+    format!(in alloc; "it has not ended after {CALL_LIMIT} read calls")
 }
 
 // The threads that a run starts.
@@ -122,7 +133,7 @@ fn record_reason(
             "the file ends before the quality is as long as the sequence"
         }
         TextFault::TooLong(_) => "a line or the sequence has more than 1048576 bytes",
-        TextFault::Read => "it could not be read to its end",
+        TextFault::Read => NOT_READ,
         TextFault::Endless => "it does not end",
         TextFault::OutOfMemory => "memory was refused",
     };

@@ -12,11 +12,11 @@ use fq_app_words::Request;
 use fq_pair::Out;
 use fq_run_core::BadSetting;
 use fq_text::OutOfMemory;
-use fq_trim::{StepFault, StepFaultKind};
+use fq_trim::{MAX_STEPS, StepFault, StepFaultKind};
 use std::alloc::Global;
 
-// The names of steps, as a reason lists them.
-const STEP_NAMES: &str =
+/// The names of steps, as a reason lists them.
+pub(crate) const STEP_NAMES: &str =
     "LEADING, TRAILING, SLIDINGWINDOW, CROP, HEADCROP, AVGQUAL, MINLEN, TOPHRED33";
 
 /// Why the request was refused.
@@ -133,7 +133,7 @@ fn step_reason(
             alloc,
             "the files must be followed by one step or more, as MINLEN:36",
         ),
-        StepFaultKind::TooMany => many_words(alloc, request.steps.len()),
+        StepFaultKind::TooMany => many_words(alloc, request.steps.len(), MAX_STEPS),
         StepFaultKind::Unknown => unknown_words(alloc, word),
         StepFaultKind::WrongCount => must_have(alloc, word, numbers_of(step_name(word))),
         StepFaultKind::BadNumber => must_have(alloc, word, "numbers of 1 to 9 digits"),
@@ -142,11 +142,12 @@ fn step_reason(
 }
 
 // How many steps there are, and can be.
-fn many_words(alloc: Global, count: usize) -> Result<String, OutOfMemory>
+fn many_words(alloc: Global, count: usize, most: usize) -> Result<String, OutOfMemory>
     ensures { IfOk result (λ text. string_bytes text
-        ≡ codes "there are " ++ decimal count ++ codes " steps, and there can be 1 to 64") }
+        ≡ codes "there are " ++ decimal count ++ codes " steps, and there can be 1 to "
+        ++ decimal most) }
 {
-    format!(in alloc; "there are {count} steps, and there can be 1 to 64")
+    format!(in alloc; "there are {count} steps, and there can be 1 to {most}")
 }
 
 // That the argument names no step, and whether it may be the name of a file.
