@@ -9,6 +9,7 @@ use Rattle.fq_pair.specs.declared.out.Out.{Out}
 use Rattle.fq_pair.specs.declared.out.Out.TheVariants.{ForwardPaired, ForwardUnpaired, ReversePaired, ReverseUnpaired, Log}
 use Rattle.fq_run_core.specs.declared.settings.BadSetting.{BadSetting}
 use Rattle.fq_run_core.specs.declared.settings.BadSetting.TheVariants as setting
+use Rattle.fq_run_core.specs.declared.settings.TheConstants.{MOST_WORKERS, MOST_PAIRS, MOST_DEPTH, MOST_BYTES}
 use Rattle.fq_app_words.specs.Requests.{Asking}
 use Rattle.fq_app_files.specs.declared.refusal.Refusal.{Refusal}
 use Rattle.fq_app_files.specs.declared.refusal.Refusal.TheVariants.{Encoding, Step, Setting, SameName, Source, Target, SameReport, Report, Memory}
@@ -86,10 +87,10 @@ range_words option value most = codes "--" ++ option ++ codes " is " ++ decimal 
 
 -- the option that is out of its range; no option changes the last two
 abbrev pub setting_reason : Asking → BadSetting → Option (List ℕ)
-setting_reason a setting.Workers = Some (range_words (codes "threads") a.threads 64)
-setting_reason a setting.BlockPairs = Some (range_words (codes "block") a.block 65536)
-setting_reason a setting.Depth = Some (range_words (codes "depth") a.depth 64)
-setting_reason a setting.Chunk = Some (range_words (codes "chunk") a.chunk 1048576)
+setting_reason a setting.Workers = Some (range_words (codes "threads") a.threads MOST_WORKERS)
+setting_reason a setting.BlockPairs = Some (range_words (codes "block") a.block MOST_PAIRS)
+setting_reason a setting.Depth = Some (range_words (codes "depth") a.depth MOST_DEPTH)
+setting_reason a setting.Chunk = Some (range_words (codes "chunk") a.chunk MOST_BYTES)
 setting_reason a setting.MaxReads = None
 setting_reason a setting.GateTurns = None
 

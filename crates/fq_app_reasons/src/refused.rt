@@ -10,7 +10,7 @@ use crate::causes::{source_reason, target_reason};
 use fq_app_files::Refusal;
 use fq_app_words::Request;
 use fq_pair::Out;
-use fq_run_core::BadSetting;
+use fq_run_core::{BadSetting, MOST_BYTES, MOST_DEPTH, MOST_PAIRS, MOST_WORKERS};
 use fq_text::OutOfMemory;
 use fq_trim::{MAX_STEPS, StepFault, StepFaultKind};
 use std::alloc::Global;
@@ -79,10 +79,10 @@ fn setting_reason(
         ≡ setting_reason (asking_of request.now) bad) }
 {
     let reason = match bad {
-        BadSetting::Workers => range_words(alloc, "threads", request.threads, 64)?,
-        BadSetting::BlockPairs => range_words(alloc, "block", request.block, 65_536)?,
-        BadSetting::Depth => range_words(alloc, "depth", request.depth, 64)?,
-        BadSetting::Chunk => range_words(alloc, "chunk", request.chunk, 1_048_576)?,
+        BadSetting::Workers => range_words(alloc, "threads", request.threads, MOST_WORKERS)?,
+        BadSetting::BlockPairs => range_words(alloc, "block", request.block, MOST_PAIRS)?,
+        BadSetting::Depth => range_words(alloc, "depth", request.depth, MOST_DEPTH)?,
+        BadSetting::Chunk => range_words(alloc, "chunk", request.chunk, MOST_BYTES)?,
         BadSetting::MaxReads | BadSetting::GateTurns => return Ok(None),
     };
     Ok(Some(reason))

@@ -42,6 +42,8 @@ pub use interleaved::run_serial_mixed;
 pub use occurred::end_outcome;
 pub use outcome::Outcome;
 pub use outlets::Outlets;
-pub use settings::{BadSetting, CALL_LIMIT, Settings};
+pub use settings::{
+    BadSetting, CALL_LIMIT, MOST_BYTES, MOST_DEPTH, MOST_PAIRS, MOST_WORKERS, Settings,
+};
 pub use settings_builder::SettingsBuilder;
 pub use two_texts::run_serial;
