@@ -1,8 +1,9 @@
 #!/usr/bin/env python3
-"""Makes the parts of files that follow from what fq_prog does, from the help of tibzharuk and from
-docs/report.schema.json: of the manual page of fq_prog, the completions, the description for CWL,
-docs/FORMAT.md and what reads reports. A part lies between the lines 'made by packaging/made.py: NAME'
-and 'end of NAME', which are comments of the file. docs/report.example.json is made as a whole."""
+"""Makes the parts of files that follow from what fq_prog does, from the help of tibzharuk, from
+docs/report.schema.json and from worked rows: of the manual page of fq_prog, the completions, the
+description for CWL, docs/FORMAT.md and what reads reports. A part lies between the lines 'made by
+packaging/made.py: NAME' and 'end of NAME', which are comments of the file. docs/report.example.json
+is made as a whole."""
 
 import argparse
 import difflib
@@ -325,6 +326,21 @@ def tuple_of(name: str, words: Iterable[str]) -> List[str]:
     return [f'{name} = ({", ".join(json.dumps(word) for word in words)})']
 
 
+# ---- Reasons
+
+def reason_table(rows: str) -> Iterator[str]:
+    """The reasons for the faults of a record, by kind, as worked rows have them. Of reasons that
+    differ in a number only, it is the first."""
+    kinds: Dict[str, Dict[str, str]] = {}
+    for kind, reason in re.findall(r'(?m)^= err: input: \w+ record \d+: (\w+): \w: (.*)\\n$', rows):
+        if kind != 'MateMissing':
+            kinds.setdefault(kind, {}).setdefault(re.sub(r'\d+$', '', reason), f'`{reason}`')
+    yield from ['', '| Kind | Reason |', '|---|---|']
+    for kind, reasons in kinds.items():
+        yield f'| `{kind}` | {"; ".join(sorted(reasons.values(), key=len))} |'
+    yield ''
+
+
 # ---- All parts
 
 def makers(program: str) -> Makers:
@@ -357,6 +373,8 @@ def makers(program: str) -> Makers:
         'fields-of-a-side': lambda: list(field_table(inner['side']['properties'])),
         'fields-of-reads': lambda: list(field_table(inner['reads']['properties'])),
         'lists-of-positions': lambda: list(field_table(inner['positions']['properties'])),
+        'reasons-of-records': lambda: list(reason_table(
+            (TREE / 'crates/fq_test_rows/data/explain.rows').read_text())),
         'names-of-positions': lambda: tuple_of('POSITIONS', inner['positions']['properties']),
     }
 

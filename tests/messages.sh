@@ -108,11 +108,24 @@ both 3 'input: record 1: NamesDiffer' "r1.fq has 'p1' and other.fq has 'p2' (see
 both 3 'input: record 1: NamesDiffer' "r1.fq: the pair has the names 'p1' and 'p2/1' (see --no-name-check)" IL r1.fq "${outs[@]}" CROP:1
 both 3 'input: record 1: NamesDiffer' "odd.fq has '' and r2.fq has 'p1' (see --no-name-check)" PE odd.fq r2.fq "${outs[@]}" CROP:1
 both 3 'input: record 1: NamesDiffer' "odd.fq: the pair has the names '' and '??[31mp??' (see --no-name-check)" IL odd.fq "${outs[@]}" CROP:1
-both 3 'input: record 1: NamesDiffer' "long.fq has '$(printf 'p%.0s' {1..100})' and r2.fq has 'p1' (see --no-name-check)" PE long.fq r2.fq "${outs[@]}" CROP:1
+both 3 'input: record 1: NamesDiffer' "long.fq has '$(printf 'p%.0s' {1..100})' (100 of 100000 bytes) and r2.fq has 'p1' (see --no-name-check)" PE long.fq r2.fq "${outs[@]}" CROP:1
 
 row='devices'
 both 4 'write failed: forward paired' "/dev/full: $full" PE r1.fq r2.fq /dev/full u1 p2 u2 CROP:1
 both 4 'write failed: trim log' "/dev/full: $full" IL --trimlog /dev/full --no-name-check r1.fq "${outs[@]}" CROP:1
+
+# Which number has which words is in one table, from 0 on.
+row='words of the system'
+sed -n '/ERROR_WORDS:/,/^\];/s/^    "\(.*\)",$/\1/p' "$tree/crates/fq_app_reasons/src/causes.rt" > ours
+python3 -c '
+import os
+own = {0: "the system gave no reason", 21: "it is a directory"}
+words = [own.get(number, os.strerror(number)) for number in range(200)]
+while words[-1].startswith("Unknown error"):
+    words.pop()
+for each in words:
+    print("" if each.startswith("Unknown error") else each)' > theirs
+cmp -s ours theirs || fail "$(diff ours theirs)"
 
 row='no mistake'
 line 0 '' "$program" PE --explain r1.fq r2.fq "${outs[@]}" CROP:1

@@ -77,7 +77,7 @@ if has cutadapt cutadapt; then
   done << 'ROWS'
 no_title|input: reverse record 21: NoTitle: FILES: the record does not begin with @
 short|input: reverse record 21: QualityLong: FILES: the quality is longer than the sequence
-no_plus|input: reverse record 21: BadSequence: FILES: a sequence line begins with @, or holds a space or an unprintable byte
+no_plus|input: reverse record 21: BadSequence: FILES: a sequence line begins with @ (is a + line missing?), or holds a space or an unprintable byte; if records have four lines, this one begins at line 81
 other|input: record 21: NamesDiffer: data/k1 has 'r21' and FILES has 'other' (see --no-name-check)
 less|input: reverse record 21: MateMissing: FILES: the file ends before this record, and data/k1 has it
 not_ascii|cutadapt: Error in FASTQ file at unknown line: Non-ASCII characters found in record. (data/k1, FILES): cutadapt needs titles in ASCII

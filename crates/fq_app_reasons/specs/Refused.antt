@@ -4,13 +4,16 @@ use Rattle.std.specs.List.{before_first, ends_with, list_any}
 use Rattle.std.specs.Str.{bytes_eq}
 use Rattle.fq_trim.specs.declared.fault.StepFaultKind.{StepFaultKind}
 use Rattle.fq_trim.specs.declared.fault.StepFaultKind.TheVariants as step
+use Rattle.fq_trim.specs.declared.steps.TheConstants.{MAX_STEPS}
 use Rattle.fq_pair.specs.declared.out.Out.{Out}
 use Rattle.fq_pair.specs.declared.out.Out.TheVariants.{ForwardPaired, ForwardUnpaired, ReversePaired, ReverseUnpaired, Log}
 use Rattle.fq_run_core.specs.declared.settings.BadSetting.{BadSetting}
 use Rattle.fq_run_core.specs.declared.settings.BadSetting.TheVariants as setting
+use Rattle.fq_run_core.specs.declared.settings.TheConstants.{MOST_WORKERS, MOST_PAIRS, MOST_DEPTH, MOST_BYTES}
 use Rattle.fq_app_words.specs.Requests.{Asking}
 use Rattle.fq_app_files.specs.declared.refusal.Refusal.{Refusal}
 use Rattle.fq_app_files.specs.declared.refusal.Refusal.TheVariants.{Encoding, Step, Setting, SameName, Source, Target, SameReport, Report, Memory}
+use Rattle.fq_app_reasons.specs.declared.refused.TheConstants.{STEP_NAMES}
 use Rattle.fq_app_reasons.specs.Causes.{source_reason, target_reason}
 
 -- Steps.
@@ -25,8 +28,7 @@ step_name word = before_first (λ b. b == 58) word
 
 -- the names of steps
 abbrev pub step_names : List ℕ
-step_names =
-    codes "LEADING, TRAILING, SLIDINGWINDOW, CROP, HEADCROP, AVGQUAL, MINLEN, TOPHRED33"
+step_names = STEP_NAMES.now
 
 -- how many numbers the step with this name takes
 abbrev pub numbers_of : List ℕ → List ℕ
@@ -68,7 +70,8 @@ abbrev pub step_reason : Asking → StepFaultKind → List ℕ → List ℕ
 step_reason a step.NoSteps word =
     codes "the files must be followed by one step or more, as MINLEN:36"
 step_reason a step.TooMany word =
-    codes "there are " ++ decimal (length a.steps) ++ codes " steps, and there can be 1 to 64"
+    codes "there are " ++ decimal (length a.steps) ++ codes " steps, and there can be 1 to "
+    ++ decimal MAX_STEPS
 step_reason a step.Unknown word = codes "'" ++ word ++ codes "' is no step (" ++ step_names
     ++ codes ")" ++ too_many_files (is_like_file word)
 step_reason a step.WrongCount word = must_have word (numbers_of (step_name word))
@@ -84,10 +87,10 @@ range_words option value most = codes "--" ++ option ++ codes " is " ++ decimal 
 
 -- the option that is out of its range; no option changes the last two
 abbrev pub setting_reason : Asking → BadSetting → Option (List ℕ)
-setting_reason a setting.Workers = Some (range_words (codes "threads") a.threads 64)
-setting_reason a setting.BlockPairs = Some (range_words (codes "block") a.block 65536)
-setting_reason a setting.Depth = Some (range_words (codes "depth") a.depth 64)
-setting_reason a setting.Chunk = Some (range_words (codes "chunk") a.chunk 1048576)
+setting_reason a setting.Workers = Some (range_words (codes "threads") a.threads MOST_WORKERS)
+setting_reason a setting.BlockPairs = Some (range_words (codes "block") a.block MOST_PAIRS)
+setting_reason a setting.Depth = Some (range_words (codes "depth") a.depth MOST_DEPTH)
+setting_reason a setting.Chunk = Some (range_words (codes "chunk") a.chunk MOST_BYTES)
 setting_reason a setting.MaxReads = None
 setting_reason a setting.GateTurns = None
 

@@ -1,22 +1,28 @@
 //! Why a run ended before all pairs were trimmed.
 
-ghost use Rattle.std.specs.Prelude.{◌≡◌, ◌<◌, ◌++◌, IfOk, Some, codes};
+ghost use Rattle.std.specs.Prelude.{◌≡◌, ◌<◌, ◌++◌, ℕ, IfOk, Some, codes, decimal};
 ghost use Rattle.std.specs.Option.{option_map};
 ghost use Rattle.std.specs.String.{string_bytes};
 ghost use Rattle.fq_app_words.specs.Requests.{asking_of, names_of};
-ghost use Rattle.fq_app_reasons.specs.Ended.{file_reason, written_reason, record_reason, missing_reason, names_reason, unmatched_reason, differ_reason, shown_name, shown_byte, title_reason, look_words, input_reason, spawn_reason, ending_reason};
+ghost use Rattle.fq_app_reasons.specs.Ended.{file_reason, written_reason, record_reason, missing_reason, names_reason, unmatched_reason, differ_reason, shown_name, shown_byte, whole_name, cut_name, quoted_name, title_reason, title_line, sequence_reason, look_words, input_reason, spawn_reason, ending_reason};
 
 use crate::causes::device_words;
 use fq_app_files::EndingSeen;
 use fq_app_words::{Inputs, Request};
 use fq_pair::{InputFault, Side, UnmatchedNames};
-use fq_run_core::Outcome;
+use fq_run_core::{CALL_LIMIT, Outcome};
 use fq_text::{Look, OutOfMemory, SystemError, TextFault};
 use std::alloc::Global;
 
-// What was known when memory was refused in a run.
-const MEMORY_REASON: &str =
+/// What was known when memory was refused in a run.
+pub(crate) const MEMORY_REASON: &str =
     "it was refused while pairs were trimmed; smaller --threads, --block or --depth take less";
+
+/// What is known of a read that failed, if the system gives no error.
+pub(crate) const NOT_READ: &str = "it could not be read to its end";
+
+/// The most bytes of a name that a reason shows.
+pub(crate) const NAME_BYTES: usize = 100;
 
 /// Why the run ended so. `seen` is what can be said of the outcome.
 pub(crate) fn ending_reason(
@@ -34,12 +40,12 @@ pub(crate) fn ending_reason(
             Ok(Some(written_reason(alloc, name, seen.error)?))
         }
         Outcome::Read(side) => {
-            let words = device_words(alloc, seen.error, "it could not be read to its end")?;
+            let words = device_words(alloc, seen.error, NOT_READ)?;
             Ok(Some(file_reason(alloc, request.input_name(side), words.as_str())?))
         }
         Outcome::Endless(side) => {
-            let words = "it has not ended after 1099511627776 read calls";
-            Ok(Some(file_reason(alloc, request.input_name(side), words)?))
+            let words = endless_words(alloc)?;
+            Ok(Some(file_reason(alloc, request.input_name(side), words.as_str())?))
         }
         Outcome::Input(fault) => Ok(Some(input_reason(alloc, request, seen, fault)?)),
         Outcome::Spawn => Ok(Some(spawn_reason(alloc, request.threads)?)),
@@ -47,6 +53,14 @@ pub(crate) fn ending_reason(
         Outcome::Lane => Ok(Some(String::from_str(alloc, "the outputs may lack pairs")?)),
         Outcome::Gate | Outcome::Finished => Ok(None),
     }
+}
+
+// How often an input was read that has not ended.
+fn endless_words(alloc: Global) -> Result<String, OutOfMemory>
+    ensures { IfOk result (λ text. string_bytes text
+        ≡ codes "it has not ended after " ++ decimal CALL_LIMIT ++ codes " read calls") }
+{
+    format!(in alloc; "it has not ended after {CALL_LIMIT} read calls")
 }
 
 // The threads that a run starts.
@@ -111,9 +125,7 @@ fn record_reason(
     let words = match fault {
         TextFault::BadQuality(_) => return quality_reason(alloc, encoding),
         TextFault::NoTitle(k) => return title_reason(alloc, look_words(k, look)),
-        TextFault::BadSequence(_) => {
-            "a sequence line begins with @, or holds a space or an unprintable byte"
-        }
+        TextFault::BadSequence(k) => return sequence_reason(alloc, title_line(k)),
         TextFault::NoPlus(_) => "the file ends before the line that begins with +",
         TextFault::PlusDiffers(_) => "the line that begins with + holds another title",
         TextFault::QualityLong(_) => "the quality is longer than the sequence",
@@ -121,7 +133,7 @@ fn record_reason(
             "the file ends before the quality is as long as the sequence"
         }
         TextFault::TooLong(_) => "a line or the sequence has more than 1048576 bytes",
-        TextFault::Read => "it could not be read to its end",
+        TextFault::Read => NOT_READ,
         TextFault::Endless => "it does not end",
         TextFault::OutOfMemory => "memory was refused",
     };
@@ -145,6 +157,25 @@ fn look_words(k: u64, look: Look) -> &'static str
         (1, Look::Fasta) => ". The file looks like FASTA",
         _ => "",
     }
+}
+
+// What is wrong with a sequence line. It is that of the record whose title is at this line, if each
+// record has four lines.
+fn sequence_reason(alloc: Global, line: u64) -> Result<String, OutOfMemory>
+    ensures { (k : ℕ) → line ≡ title_line k
+        → IfOk result (λ text. string_bytes text ≡ sequence_reason k) }
+{
+    format!(in alloc;
+        "a sequence line begins with @ (is a + line missing?), or holds a space or an unprintable \
+         byte; if records have four lines, this one begins at line {line}"
+    )
+}
+
+// The line of the title of record `k`, if each record before has four lines.
+fn title_line(k: u64) -> u64
+    ensures { result ≡ title_line k }
+{
+    k.saturating_mul(4).saturating_sub(3)
 }
 
 // What is wrong with a quality byte.
@@ -202,8 +233,8 @@ fn unmatched_reason(
     ensures { IfOk result (λ text. string_bytes text
         ≡ unmatched_reason (names_of inputs.entry) (names_of inputs.entry).form names.now) }
 {
-    let first = shown_name(alloc, names.forward())?;
-    let second = shown_name(alloc, names.reverse())?;
+    let first = quoted_name(alloc, names.forward())?;
+    let second = quoted_name(alloc, names.reverse())?;
     match inputs {
         Inputs::Apart { forward, reverse } => {
             names_apart(alloc, forward, first.as_str(), reverse, second.as_str())
@@ -221,10 +252,10 @@ fn names_apart(
     second: &str,
 ) -> Result<String, OutOfMemory>
     ensures { IfOk result (λ text. string_bytes text
-        ≡ forward.now ++ codes " has '" ++ first.now ++ codes "' and " ++ reverse.now
-        ++ codes " has '" ++ second.now ++ codes "' (see --no-name-check)") }
+        ≡ forward.now ++ codes " has " ++ first.now ++ codes " and " ++ reverse.now
+        ++ codes " has " ++ second.now ++ codes " (see --no-name-check)") }
 {
-    format!(in alloc; "{forward} has '{first}' and {reverse} has '{second}' (see --no-name-check)")
+    format!(in alloc; "{forward} has {first} and {reverse} has {second} (see --no-name-check)")
 }
 
 // The names of two mates in one file.
@@ -235,20 +266,44 @@ fn names_together(
     second: &str,
 ) -> Result<String, OutOfMemory>
     ensures { IfOk result (λ text. string_bytes text
-        ≡ both.now ++ codes ": the pair has the names '" ++ first.now ++ codes "' and '"
-        ++ second.now ++ codes "' (see --no-name-check)") }
+        ≡ both.now ++ codes ": the pair has the names " ++ first.now ++ codes " and "
+        ++ second.now ++ codes " (see --no-name-check)") }
 {
-    format!(in alloc;
-        "{both}: the pair has the names '{first}' and '{second}' (see --no-name-check)"
-    )
+    format!(in alloc; "{both}: the pair has the names {first} and {second} (see --no-name-check)")
 }
 
-// The first 100 bytes of a name. A name comes from a file, so it may be long, and may have bytes
-// that don't print.
+// The first bytes of a name in quotes, and whether it has more, since two names may differ only
+// after these.
+fn quoted_name(alloc: Global, name: &[u8]) -> Result<String, OutOfMemory>
+    ensures { IfOk result (λ text. string_bytes text ≡ quoted_name name.now) }
+{
+    let shown = shown_name(alloc, name)?;
+    if name.len() > NAME_BYTES {
+        return cut_name(alloc, shown.as_str(), NAME_BYTES, name.len());
+    }
+    whole_name(alloc, shown.as_str())
+}
+
+// The first bytes of a name that has more, in quotes.
+fn cut_name(alloc: Global, shown: &str, count: usize, bytes: usize) -> Result<String, OutOfMemory>
+    ensures { IfOk result (λ text. string_bytes text ≡ cut_name shown.now count bytes) }
+{
+    format!(in alloc; "'{shown}' ({count} of {bytes} bytes)")
+}
+
+// A name that is shown whole, in quotes.
+fn whole_name(alloc: Global, shown: &str) -> Result<String, OutOfMemory>
+    ensures { IfOk result (λ text. string_bytes text ≡ whole_name shown.now) }
+{
+    format!(in alloc; "'{shown}'")
+}
+
+// The first bytes of a name. A name comes from a file, so it may be long, and may have bytes that
+// don't print.
 fn shown_name(alloc: Global, name: &[u8]) -> Result<String, OutOfMemory>
     ensures { IfOk result (λ text. string_bytes text ≡ shown_name name.now) }
 {
-    let front = &name[..name.len().min(100)];
+    let front = &name[..name.len().min(NAME_BYTES)];
     let mut text = String::new(alloc);
     for byte in front.iter() {
         text.push(shown_byte(*byte))?;

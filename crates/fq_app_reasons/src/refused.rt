@@ -10,13 +10,13 @@ use crate::causes::{source_reason, target_reason};
 use fq_app_files::Refusal;
 use fq_app_words::Request;
 use fq_pair::Out;
-use fq_run_core::BadSetting;
+use fq_run_core::{BadSetting, MOST_BYTES, MOST_DEPTH, MOST_PAIRS, MOST_WORKERS};
 use fq_text::OutOfMemory;
-use fq_trim::{StepFault, StepFaultKind};
+use fq_trim::{MAX_STEPS, StepFault, StepFaultKind};
 use std::alloc::Global;
 
-// The names of steps, as a reason lists them.
-const STEP_NAMES: &str =
+/// The names of steps, as a reason lists them.
+pub(crate) const STEP_NAMES: &str =
     "LEADING, TRAILING, SLIDINGWINDOW, CROP, HEADCROP, AVGQUAL, MINLEN, TOPHRED33";
 
 /// Why the request was refused.
@@ -79,10 +79,10 @@ fn setting_reason(
         ≡ setting_reason (asking_of request.now) bad) }
 {
     let reason = match bad {
-        BadSetting::Workers => range_words(alloc, "threads", request.threads, 64)?,
-        BadSetting::BlockPairs => range_words(alloc, "block", request.block, 65_536)?,
-        BadSetting::Depth => range_words(alloc, "depth", request.depth, 64)?,
-        BadSetting::Chunk => range_words(alloc, "chunk", request.chunk, 1_048_576)?,
+        BadSetting::Workers => range_words(alloc, "threads", request.threads, MOST_WORKERS)?,
+        BadSetting::BlockPairs => range_words(alloc, "block", request.block, MOST_PAIRS)?,
+        BadSetting::Depth => range_words(alloc, "depth", request.depth, MOST_DEPTH)?,
+        BadSetting::Chunk => range_words(alloc, "chunk", request.chunk, MOST_BYTES)?,
         BadSetting::MaxReads | BadSetting::GateTurns => return Ok(None),
     };
     Ok(Some(reason))
@@ -133,7 +133,7 @@ fn step_reason(
             alloc,
             "the files must be followed by one step or more, as MINLEN:36",
         ),
-        StepFaultKind::TooMany => many_words(alloc, request.steps.len()),
+        StepFaultKind::TooMany => many_words(alloc, request.steps.len(), MAX_STEPS),
         StepFaultKind::Unknown => unknown_words(alloc, word),
         StepFaultKind::WrongCount => must_have(alloc, word, numbers_of(step_name(word))),
         StepFaultKind::BadNumber => must_have(alloc, word, "numbers of 1 to 9 digits"),
@@ -142,11 +142,12 @@ fn step_reason(
 }
 
 // How many steps there are, and can be.
-fn many_words(alloc: Global, count: usize) -> Result<String, OutOfMemory>
+fn many_words(alloc: Global, count: usize, most: usize) -> Result<String, OutOfMemory>
     ensures { IfOk result (λ text. string_bytes text
-        ≡ codes "there are " ++ decimal count ++ codes " steps, and there can be 1 to 64") }
+        ≡ codes "there are " ++ decimal count ++ codes " steps, and there can be 1 to "
+        ++ decimal most) }
 {
-    format!(in alloc; "there are {count} steps, and there can be 1 to 64")
+    format!(in alloc; "there are {count} steps, and there can be 1 to {most}")
 }
 
 // That the argument names no step, and whether it may be the name of a file.

@@ -16,6 +16,7 @@ pub(crate) const START: &str = "Start with:
   fq_prog EXAMPLE    shows outputs, trim log and summary of a small run
   fq_prog PE --help  says what each option and each step does
   fq_prog IL --help  says the same for one file in which mates take turns
+  tibzharuk --help   says how to trim .gz files and to remove adapters
 
 Example:
   fq_prog PE r1.fq r2.fq \\

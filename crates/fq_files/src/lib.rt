@@ -1,4 +1,15 @@
 //! Files by name: where a program's inputs come from and its outputs go, in memory or on a disk.
+//!
+//! [`Files`] opens a feed of a file ([`source`](Files::source)) and an outlet to one
+//! ([`target`](Files::target)), and takes both back ([`source_done`](Files::source_done),
+//! [`done`](Files::done)), saying why they failed. [`MemoryFiles`] are in memory, [`SystemFiles`]
+//! are those of the system. A file that is refused has a [`Cause`].
+//!
+//! Promised is what the bytes of a name are after each call, if the proof knows them, as it knows
+//! those in memory. No call changes the bytes of another name. A file is refused only for a cause
+//! for which its name may be, and an error is one that a device of its name may have. The files of
+//! the system refuse an input as an output, under whatever name: that two names lead to one file is
+//! looked up, and not proved.
 #![tactic(auto)]
 
 mod device;

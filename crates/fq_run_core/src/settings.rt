@@ -10,13 +10,13 @@ use std::marker::Model;
 use thiserror::Error;
 
 /// The largest number of workers.
-const MOST_WORKERS: u64 = 64;
+pub const MOST_WORKERS: u64 = 64;
 /// The largest number of pairs in a block.
-const MOST_PAIRS: u64 = 65_536;
+pub const MOST_PAIRS: u64 = 65_536;
 /// The largest number of items in a lane.
-const MOST_DEPTH: u64 = 64;
+pub const MOST_DEPTH: u64 = 64;
 /// The largest number of bytes that one read call asks for.
-const MOST_BYTES: u64 = 1_048_576;
+pub const MOST_BYTES: u64 = 1_048_576;
 /// The largest number of read calls per input, and of turns at a gate: 2^40.
 pub const CALL_LIMIT: u64 = 1_099_511_627_776;
 

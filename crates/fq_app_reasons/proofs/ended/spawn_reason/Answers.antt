@@ -1,7 +1,0 @@
-use Rattle.std.proofs.Common.{rules, append_assoc}
-use Rattle.std.proofs.lemmas.Result.{IfOk-equal}
-use Rattle.fq_app_reasons.proofs.ended.spawn_reason.Goals as goal
-
--- the formatted text is the number of threads and its words
-pub returns : goal.returns
-returns c = search (rules, IfOk-equal, append_assoc)
