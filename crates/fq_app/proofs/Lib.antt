@@ -1,3 +1,4 @@
 mod AnswerLemmas
+pub mod CallLemmas
 mod ExampleLemmas
 pub mod FileLemmas

@@ -1,15 +1,11 @@
 //! The program, apart from where its arguments and files come from and where its texts go.
 
-ghost use Rattle.std.specs.Prelude.{◌≡◌, ◌≢◌, ◌⊎◌, ◌++◌, Some, None, [], IsSome, IsTrue, map};
+ghost use Rattle.std.specs.Prelude.{◌≡◌, ◌≢◌, ◌⊎◌, Some, None, [], IsSome, map};
 ghost use Rattle.fq_app_words.specs.Requests.{Asking, asking_of};
 ghost use Rattle.fq_app_files.specs.Judging.{wrong_with};
-ghost use Rattle.fq_app_files.specs.Trimming.{KeepsUnnamed};
-ghost use Rattle.fq_app_files.specs.Leaving.{AreUntrimmed};
-ghost use Rattle.fq_app_files.specs.Opening.{SparesInputs};
 ghost use Rattle.fq_app_words.specs.Words.{AskedFor, words_fault};
-ghost use Rattle.fq_app.specs.Answers.{device_of, TookText, TookPart, TookLines, TookReportLine, LacksMemory, TookMemoryLine, LacksPrint, IsUnshown, Refuses, Tells, NamesDevice, PairsAnswered, AreRefused, IsCall, AreCalls, print_line};
-ghost use Rattle.fq_app.specs.Example.{example_text};
-ghost use Rattle.fq_app.specs.FilesInStep.{FilesAreInStep, FilesAreInStepUpTo};
+ghost use Rattle.fq_app.specs.Answers.{device_of, TookText, TookPart, TookLines, TookReportLine, LacksMemory, LacksPrint, Refuses, Tells, IsCall};
+ghost use Rattle.fq_app.specs.Calls.{ArgumentsAnswered, ExampleAnswered, PrintsByStatus, RequestAnswered, StaysSound};
 ghost use Rattle.fq_app_files.specs.Faults.{outcome_status};
 ghost use Rattle.fq_app_reasons.specs.Lines.{ending_line};
 ghost use Rattle.fq_pair.specs.Summaries.{summary_of};
@@ -61,85 +57,29 @@ pub fn program<'a, R: Threads + Wait + Copy + Send + 'static, T: Files, O: Outle
     requires out { (O.state out.old).failures ≡ 0 }
     requires err { (E.state err.old).failures ≡ 0 }
 
-    // Arguments that parse as `PE` or `IL` are carried out: the pairs are trimmed, or `err` gets
-    // the reason why not. A wrong request is refused before a file is touched.
-    ensures pairs { (a : Asking) → AskedFor (map (λ word. word.now) words.entry.now) (Some a)
-        → PairsAnswered a (T.state files.old) (T.state files.new)
+    // Arguments that parse as `PE` or `IL` are carried out. A wrong request is refused before a
+    // file is touched.
+    ensures request { (a : Asking) → AskedFor (map (λ word. word.now) words.entry.now) (Some a)
+        → RequestAnswered a (T.state files.old) (T.state files.new)
         (device_of O.state out.old out.new) (device_of E.state err.old err.new) result }
     ensures wrong { (a : Asking) → AskedFor (map (λ word. word.now) words.entry.now) (Some a)
         → IsSome (wrong_with a) → files.new ≡ files.old }
 
-    // At status 0 and 3 the files of the outputs that have a name of their own are in step with
-    // each other and with the summary that was printed, and at status 0 no fault ended the pairs.
-    // At every status except 6 each file of an output holds what it held before, or nothing, or
-    // these files are in step for the first pairs, up to the block in which a write failed.
-    ensures in_step { (a : Asking) → AskedFor (map (λ word. word.now) words.entry.now) (Some a)
-        → (result ≡ 0) ⊎ (result ≡ 3) → IsTrue (T.state files.old).tells
-        → FilesAreInStep a (T.state files.old).bytes (T.state files.new).bytes
-        (device_of O.state out.old out.new) result }
-    ensures left_in_step { (a : Asking)
-        → AskedFor (map (λ word. word.now) words.entry.now) (Some a)
-        → result ≢ 6 → IsTrue (T.state files.old).tells
-        → AreUntrimmed a (T.state files.old).bytes (T.state files.new).bytes
-        ⊎ FilesAreInStepUpTo a (T.state files.old).bytes (T.state files.new).bytes }
-
-    // At status 4 the line names a file or device that was indeed refused or has failed. At 0 and 3
-    // no device of the files has failed, and each output, the log and the report were flushed after
-    // their last write.
-    ensures device { (a : Asking) → AskedFor (map (λ word. word.now) words.entry.now) (Some a)
-        → result ≡ 4
-        → NamesDevice a (T.state files.old) (T.state files.new)
-        (device_of O.state out.old out.new) (device_of E.state err.old err.new) }
-    ensures sound { (result ≡ 0) ⊎ (result ≡ 3)
-        → (T.state files.new).has_failed ≡ (T.state files.old).has_failed }
-    ensures flushed { (result ≡ 0) ⊎ (result ≡ 3)
-        → (T.state files.new).is_unflushed ≡ (T.state files.old).is_unflushed }
-
-    // Only the files of the outputs and of the report change.
-    ensures rest { (a : Asking) → AskedFor (map (λ word. word.now) words.entry.now) (Some a)
-        → IsTrue (T.state files.old).tells
-        → KeepsUnnamed a (T.state files.old).bytes (T.state files.new).bytes }
-
-    // If an output or the report leads to an input, no file changes, and the status is neither 0
-    // nor 3.
-    ensures spared { (a : Asking) → AskedFor (map (λ word. word.now) words.entry.now) (Some a)
-        → SparesInputs a ((result ≢ 0) × (result ≢ 3)) (T.state files.old) (T.state files.new) }
-
-    // Other arguments touch no file. `EXAMPLE` is printed unless `out`, memory or a thread fails.
-    // Arguments that don't parse are refused; help and the version are printed.
+    // Other arguments touch no file: `EXAMPLE`, and those that don't parse. Status 1 comes only for
+    // the latter, and nothing goes to `out` then.
     ensures example { AskedFor (map (λ word. word.now) words.entry.now) None
-        → (files.new ≡ files.old)
-        × ((result ≡ 0) ⊎ ((result ≡ 4) ⊎ ((result ≡ 5) ⊎ (result ≡ 6)))) }
-    ensures shown { AskedFor (map (λ word. word.now) words.entry.now) None
-        → result ≡ 0 → IsTrue (O.state out.old).tells
-        → (O.state out.new).taken ≡ (O.state out.old).taken ++ example_text }
-    ensures unshown { AskedFor (map (λ word. word.now) words.entry.now) None → result ≢ 0
-        → IsUnshown (device_of O.state out.old out.new) (device_of E.state err.old err.new) result }
+        → (files.new ≡ files.old) × ExampleAnswered
+        (device_of O.state out.old out.new) (device_of E.state err.old err.new) result }
     ensures refused { words_fault (map (λ word. word.now) words.entry.now) ≢ []
-        → files.new ≡ files.old }
-    ensures usage { AreRefused (words_fault (map (λ word. word.now) words.entry.now))
-        → (result ≡ 1) ⊎ (result ≡ 5) }
-    ensures called { AreCalls (words_fault (map (λ word. word.now) words.entry.now)) → result ≢ 1 }
+        → (files.new ≡ files.old)
+        × ArgumentsAnswered (words_fault (map (λ word. word.now) words.entry.now))
+        (device_of O.state out.old out.new) (device_of E.state err.old err.new) result }
     ensures usage_only { result ≡ 1 → (words_fault (map (λ word. word.now) words.entry.now) ≢ [])
         × (out.new ≡ out.old) }
-    ensures help { words_fault (map (λ word. word.now) words.entry.now) ≢ [] → result ≡ 0
-        → TookLines (device_of O.state out.old out.new) }
     ensures usage_lines { result ≡ 1 → TookLines (device_of E.state err.old err.new) }
-    ensures unprinted { words_fault (map (λ word. word.now) words.entry.now) ≢ [] → result ≡ 4
-        → LacksPrint (device_of O.state out.old out.new)
-        (device_of E.state err.old err.new) result }
 
-    // At status 0 `err` has taken nothing and `out` the whole text. Unless `out` failed, nothing is
-    // printed at statuses other than 0 and 3. If it failed, the status is 3, or 4 with the line for
-    // that. Refused memory is reported as such; only a request may have a reason for it.
-    ensures finished { result ≡ 0 → ((O.state out.new).failures ≡ 0) × (err.new ≡ err.old) }
-    ensures quiet { result ≢ 0 → result ≢ 3 → (O.state out.new).failures ≡ 0 → out.new ≡ out.old }
-    ensures failed { (O.state out.new).failures ≢ 0
-        → (result ≡ 3) ⊎ ((result ≡ 4) × TookText (device_of E.state err.old err.new) print_line) }
-    ensures memory { result ≡ 5 → (out.new ≡ out.old)
-        × TookMemoryLine (device_of E.state err.old err.new) }
-    ensures unread { words_fault (map (λ word. word.now) words.entry.now) ≢ [] → result ≡ 5
-        → LacksMemory (device_of E.state err.old err.new) result }
+    ensures sound { StaysSound (T.state files.old) (T.state files.new) result }
+    ensures prints { PrintsByStatus O.state E.state out.old out.new err.old err.new result }
 {
     match read_words(alloc, words) {
         Ok(Asked::Example) => print_example(alloc, rt, out, err),
@@ -159,26 +99,12 @@ fn trim_pairs<R: Threads + Wait + Copy + Send + 'static, T: Files, O: Outlet, E:
 ) -> u8
     requires out { (O.state out.old).failures ≡ 0 }
     requires err { (E.state err.old).failures ≡ 0 }
-    ensures pairs { PairsAnswered (asking_of request.now) (T.state files.old) (T.state files.new)
-        (device_of O.state out.old out.new) (device_of E.state err.old err.new) result }
-    ensures device { result ≡ 4
-        → NamesDevice (asking_of request.now) (T.state files.old) (T.state files.new)
-        (device_of O.state out.old out.new) (device_of E.state err.old err.new) }
-    ensures sound { (result ≡ 0) ⊎ (result ≡ 3)
-        → (T.state files.new).has_failed ≡ (T.state files.old).has_failed }
-    ensures flushed { (result ≡ 0) ⊎ (result ≡ 3)
-        → (T.state files.new).is_unflushed ≡ (T.state files.old).is_unflushed }
+    ensures request { RequestAnswered (asking_of request.now) (T.state files.old)
+        (T.state files.new) (device_of O.state out.old out.new)
+        (device_of E.state err.old err.new) result }
     ensures wrong { IsSome (wrong_with (asking_of request.now)) → files.new ≡ files.old }
-    ensures rest { IsTrue (T.state files.old).tells → KeepsUnnamed (asking_of request.now)
-        (T.state files.old).bytes (T.state files.new).bytes }
-    ensures spared { SparesInputs (asking_of request.now)
-        ((result ≢ 0) × (result ≢ 3)) (T.state files.old) (T.state files.new) }
-    ensures finished { result ≡ 0 → ((O.state out.new).failures ≡ 0) × (err.new ≡ err.old) }
-    ensures quiet { result ≢ 0 → result ≢ 3 → (O.state out.new).failures ≡ 0 → out.new ≡ out.old }
-    ensures failed { (O.state out.new).failures ≢ 0
-        → (result ≡ 3) ⊎ ((result ≡ 4) × TookText (device_of E.state err.old err.new) print_line) }
-    ensures memory { result ≡ 5 → (out.new ≡ out.old)
-        × TookMemoryLine (device_of E.state err.old err.new) }
+    ensures sound { StaysSound (T.state files.old) (T.state files.new) result }
+    ensures prints { PrintsByStatus O.state E.state out.old out.new err.old err.new result }
 {
     match trim_files(alloc, rt, request, files) {
         Ok(completed) => tell(alloc, request, &completed, out, err),
@@ -202,7 +128,6 @@ fn tell<O: Outlet, E: Outlet>(
         → (completed.now.reported ≡ Reported.NotDue) ⊎ (completed.now.reported ≡ Reported.Written) }
     ensures printed { (result ≡ 0) ⊎ (result ≡ 3)
         → TookPart (device_of O.state out.old out.new) (summary_of completed.now.account.counts) }
-    ensures finished { result ≡ 0 → ((O.state out.new).failures ≡ 0) × (err.new ≡ err.old) }
     ensures told { (result ≡ 0) ⊎ (result ≡ 3) → TookText (device_of E.state err.old err.new)
         (ending_line (asking_of request.now) completed.now.seen completed.now.account.outcome) }
     ensures line { result ≢ 0 → Tells (asking_of request.now) completed.now.seen
@@ -211,11 +136,7 @@ fn tell<O: Outlet, E: Outlet>(
     ensures unreported { completed.now.reported ≡ Reported.Failed
         → TookReportLine (asking_of request.now)
         completed.now.report_error (device_of E.state err.old err.new) }
-    ensures memory { result ≡ 5 → (out.new ≡ out.old)
-        × TookMemoryLine (device_of E.state err.old err.new) }
-    ensures quiet { result ≢ 0 → result ≢ 3 → (O.state out.new).failures ≡ 0 → out.new ≡ out.old }
-    ensures failed { (O.state out.new).failures ≢ 0
-        → (result ≡ 3) ⊎ ((result ≡ 4) × TookText (device_of E.state err.old err.new) print_line) }
+    ensures prints { PrintsByStatus O.state E.state out.old out.new err.old err.new result }
     ensures known { (result ≢ 1) × (result ≢ 2) }
 {
     match completed.reported {
@@ -258,17 +179,9 @@ fn print_example<R: Threads + Wait + Copy + Send + 'static, O: Outlet, E: Outlet
 ) -> u8
     requires out { (O.state out.old).failures ≡ 0 }
     requires err { (E.state err.old).failures ≡ 0 }
-    ensures status { (result ≡ 0) ⊎ ((result ≡ 4) ⊎ ((result ≡ 5) ⊎ (result ≡ 6))) }
-    ensures shown { result ≡ 0 → IsTrue (O.state out.old).tells
-        → (O.state out.new).taken ≡ (O.state out.old).taken ++ example_text }
-    ensures unshown { result ≢ 0
-        → IsUnshown (device_of O.state out.old out.new) (device_of E.state err.old err.new) result }
-    ensures finished { result ≡ 0 → ((O.state out.new).failures ≡ 0) × (err.new ≡ err.old) }
-    ensures quiet { result ≢ 0 → (O.state out.new).failures ≡ 0 → out.new ≡ out.old }
-    ensures failed { (O.state out.new).failures ≢ 0
-        → (result ≡ 4) × TookText (device_of E.state err.old err.new) print_line }
-    ensures memory { result ≡ 5 → (out.new ≡ out.old)
-        × LacksMemory (device_of E.state err.old err.new) result }
+    ensures shown { ExampleAnswered
+        (device_of O.state out.old out.new) (device_of E.state err.old err.new) result }
+    ensures prints { PrintsByStatus O.state E.state out.old out.new err.old err.new result }
 {
     match example(alloc, rt) {
         Ok(text) => match send(out, &text) {
@@ -301,11 +214,11 @@ fn refuse_words<O: Outlet, E: Outlet>(
     ensures usage_only { result ≡ 1 → (out.new ≡ out.old) × (kind_of error.now ≢ OutOfMemory) }
     ensures help { result ≡ 0 → TookLines (device_of O.state out.old out.new) }
     ensures usage_lines { result ≡ 1 → TookLines (device_of E.state err.old err.new) }
-    ensures finished { result ≡ 0 → ((O.state out.new).failures ≡ 0) × (err.new ≡ err.old) }
-    ensures failed { result ≡ 4 → ((O.state out.new).failures ≡ 1)
-        × TookText (device_of E.state err.old err.new) print_line }
-    ensures memory { result ≡ 5 → (out.new ≡ out.old)
-        × LacksMemory (device_of E.state err.old err.new) result }
+    ensures unprinted { result ≡ 4 → LacksPrint (device_of O.state out.old out.new)
+        (device_of E.state err.old err.new) result }
+    ensures once { result ≡ 4 → (O.state out.new).failures ≡ 1 }
+    ensures unread { result ≡ 5 → LacksMemory (device_of E.state err.old err.new) result }
+    ensures prints { PrintsByStatus O.state E.state out.old out.new err.old err.new result }
 {
     if error.kind() == ErrorKind::OutOfMemory {
         // The kind stands for the error of std.

@@ -4,7 +4,8 @@ ghost use Rattle.std.specs.Prelude.{◌≡◌, ◌≢◌, ◌⊎◌, true, false
 ghost use Rattle.std.specs.Option.{option_map};
 ghost use Rattle.std.specs.String.{string_bytes};
 ghost use Rattle.fq_pair.specs.Summaries.{summary_of};
-ghost use Rattle.fq_app.specs.Answers.{device_of, TookText, TookPart, TookReportLine, Reports, LacksMemory, TookMemoryLine, print_line};
+ghost use Rattle.fq_app.specs.Answers.{device_of, TookText, TookPart, TookReportLine, Reports, LacksMemory, print_line};
+ghost use Rattle.fq_app.specs.Calls.{PrintsByStatus};
 ghost use Rattle.fq_app_files.specs.Faults.{outcome_status};
 ghost use Rattle.fq_app_words.specs.Requests.{asking_of};
 ghost use Rattle.fq_app_reasons.specs.Lines.{line_for, report_memory_line};
@@ -36,8 +37,6 @@ pub(crate) fn tell_account<O: Outlet, E: Outlet>(
     ensures whole { (result ≡ 0) ⊎ (result ≡ 3) → outcome_status account.now.outcome ≡ result }
     ensures printed { (result ≡ 0) ⊎ (result ≡ 3)
         → TookPart (device_of O.state out.old out.new) (summary_of account.now.counts) }
-    ensures finished { result ≡ 0 → ((O.state out.new).failures ≡ 0) × (err.new ≡ err.old) }
-
     ensures status { (result ≡ outcome_status account.now.outcome) ⊎ ((result ≡ 4) ⊎ (result ≡ 5)) }
 
     // The line of the outcome went to `err`.
@@ -48,14 +47,7 @@ pub(crate) fn tell_account<O: Outlet, E: Outlet>(
         (line_for (option_map (λ r. asking_of r.now) request.entry) seen.now account.now.outcome)
         account.now.outcome
         (device_of O.state out.old out.new) (device_of E.state err.old err.new) result }
-    ensures memory { result ≡ 5 → (out.new ≡ out.old)
-        × TookMemoryLine (device_of E.state err.old err.new) }
-
-    // Unless `out` failed, nothing is printed at statuses other than 0 and 3. If it failed, the
-    // status is 3, or 4 with the line for that.
-    ensures quiet { result ≢ 0 → result ≢ 3 → (O.state out.new).failures ≡ 0 → out.new ≡ out.old }
-    ensures failed { (O.state out.new).failures ≢ 0
-        → (result ≡ 3) ⊎ ((result ≡ 4) × TookText (device_of E.state err.old err.new) print_line) }
+    ensures prints { PrintsByStatus O.state E.state out.old out.new err.old err.new result }
     ensures known { (result ≢ 1) × (result ≢ 2) }
 {
     if matches!(account.outcome, Outcome::Lane) {

@@ -2,18 +2,14 @@
 //! shows what becomes of two built-in pairs.
 #![tactic(auto)]
 
-ghost use Rattle.std.specs.Prelude.{◌≡◌, ◌≢◌, ◌⊎◌, ◌++◌, Some, None, [], IsSome, IsTrue, map, IfOk};
+ghost use Rattle.std.specs.Prelude.{◌≡◌, ◌≢◌, Some, None, [], IsSome, map, IfOk};
 ghost use Rattle.std.specs.Process.{exit_status};
 ghost use Rattle.std.specs.String.{string_bytes};
 ghost use Rattle.fq_app_words.specs.Requests.{Asking};
 ghost use Rattle.fq_app_words.specs.Words.{AskedFor, words_fault};
 ghost use Rattle.fq_app_files.specs.Judging.{wrong_with};
-ghost use Rattle.fq_app_files.specs.Trimming.{KeepsUnnamed};
-ghost use Rattle.fq_app_files.specs.Leaving.{AreUntrimmed};
-ghost use Rattle.fq_app_files.specs.Opening.{SparesInputs};
-ghost use Rattle.fq_app.specs.Answers.{device_of, TookText, TookLines, LacksMemory, TookMemoryLine, LacksPrint, IsUnshown, NamesDevice, PairsAnswered, AreRefused, AreCalls, print_line};
-ghost use Rattle.fq_app.specs.Example.{example_text};
-ghost use Rattle.fq_app.specs.FilesInStep.{FilesAreInStep, FilesAreInStepUpTo};
+ghost use Rattle.fq_app.specs.Answers.{device_of, TookLines};
+ghost use Rattle.fq_app.specs.Calls.{ArgumentsAnswered, ExampleAnswered, PrintsByStatus, RequestAnswered, StaysSound};
 
 use fq_app::{out_of_memory, program};
 use fq_files::{Files, SystemFiles};
@@ -72,93 +68,26 @@ fn run<
 >(alloc: Global, rt: &R, texts: &[String], files: &mut T, out: &mut O, err: &mut E) -> ExitCode
     requires out { (O.state out.old).failures ≡ 0 }
     requires err { (E.state err.old).failures ≡ 0 }
-
-    // Arguments that parse as `PE` or `IL` are carried out: the pairs are trimmed, or `err` gets
-    // the reason why not. A wrong request is refused before a file is touched.
-    ensures pairs { (a : Asking) → AskedFor (map string_bytes texts.now) (Some a)
-        → PairsAnswered a (T.state files.old) (T.state files.new)
+    ensures request { (a : Asking) → AskedFor (map string_bytes texts.now) (Some a)
+        → RequestAnswered a (T.state files.old) (T.state files.new)
         (device_of O.state out.old out.new)
         (device_of E.state err.old err.new) (exit_status result) }
     ensures wrong { (a : Asking) → AskedFor (map string_bytes texts.now) (Some a)
         → IsSome (wrong_with a) → files.new ≡ files.old }
-
-    // At status 0 and 3 the files of the outputs that have a name of their own are in step with
-    // each other and with the summary that was printed, and at status 0 no fault ended the pairs.
-    // At every status except 6 each file of an output holds what it held before, or nothing, or
-    // these files are in step for the first pairs, up to the block in which a write failed.
-    ensures in_step { (a : Asking) → AskedFor (map string_bytes texts.now) (Some a)
-        → (exit_status result ≡ 0) ⊎ (exit_status result ≡ 3) → IsTrue (T.state files.old).tells
-        → FilesAreInStep a (T.state files.old).bytes (T.state files.new).bytes
-        (device_of O.state out.old out.new) (exit_status result) }
-    ensures left_in_step { (a : Asking)
-        → AskedFor (map string_bytes texts.now) (Some a)
-        → exit_status result ≢ 6 → IsTrue (T.state files.old).tells
-        → AreUntrimmed a (T.state files.old).bytes (T.state files.new).bytes
-        ⊎ FilesAreInStepUpTo a (T.state files.old).bytes (T.state files.new).bytes }
-
-    // At status 4 the line names a file or device that was indeed refused or has failed. At 0 and 3
-    // no device of the files has failed, and each output, the log and the report were flushed after
-    // their last write.
-    ensures device { (a : Asking) → AskedFor (map string_bytes texts.now) (Some a)
-        → exit_status result ≡ 4
-        → NamesDevice a (T.state files.old) (T.state files.new)
-        (device_of O.state out.old out.new) (device_of E.state err.old err.new) }
-    ensures sound { (exit_status result ≡ 0) ⊎ (exit_status result ≡ 3)
-        → (T.state files.new).has_failed ≡ (T.state files.old).has_failed }
-    ensures flushed { (exit_status result ≡ 0) ⊎ (exit_status result ≡ 3)
-        → (T.state files.new).is_unflushed ≡ (T.state files.old).is_unflushed }
-
-    // Only the files of the outputs and of the report change.
-    ensures rest { (a : Asking) → AskedFor (map string_bytes texts.now) (Some a)
-        → IsTrue (T.state files.old).tells
-        → KeepsUnnamed a (T.state files.old).bytes (T.state files.new).bytes }
-
-    // If an output or the report leads to an input, no file changes, and the status is neither 0
-    // nor 3.
-    ensures spared { (a : Asking) → AskedFor (map string_bytes texts.now) (Some a)
-        → SparesInputs a ((exit_status result ≢ 0) × (exit_status result ≢ 3))
-        (T.state files.old) (T.state files.new) }
-
-    // Other arguments touch no file. `EXAMPLE` is printed unless `out`, memory or a thread fails.
-    // Arguments that don't parse are refused; help and the version are printed.
     ensures example { AskedFor (map string_bytes texts.now) None
-        → (files.new ≡ files.old)
-        × ((exit_status result ≡ 0) ⊎ ((exit_status result ≡ 4)
-        ⊎ ((exit_status result ≡ 5) ⊎ (exit_status result ≡ 6)))) }
-    ensures shown { AskedFor (map string_bytes texts.now) None
-        → exit_status result ≡ 0 → IsTrue (O.state out.old).tells
-        → (O.state out.new).taken ≡ (O.state out.old).taken ++ example_text }
-    ensures unshown { AskedFor (map string_bytes texts.now) None → exit_status result ≢ 0
-        → IsUnshown (device_of O.state out.old out.new)
+        → (files.new ≡ files.old) × ExampleAnswered
+        (device_of O.state out.old out.new)
         (device_of E.state err.old err.new) (exit_status result) }
     ensures refused { words_fault (map string_bytes texts.now) ≢ []
-        → files.new ≡ files.old }
-    ensures usage { AreRefused (words_fault (map string_bytes texts.now))
-        → (exit_status result ≡ 1) ⊎ (exit_status result ≡ 5) }
-    ensures called { AreCalls (words_fault (map string_bytes texts.now)) → exit_status result ≢ 1 }
+        → (files.new ≡ files.old) × ArgumentsAnswered (words_fault (map string_bytes texts.now))
+        (device_of O.state out.old out.new)
+        (device_of E.state err.old err.new) (exit_status result) }
     ensures usage_only { exit_status result ≡ 1 → (words_fault (map string_bytes texts.now) ≢ [])
         × (out.new ≡ out.old) }
-    ensures help { words_fault (map string_bytes texts.now) ≢ [] → exit_status result ≡ 0
-        → TookLines (device_of O.state out.old out.new) }
     ensures usage_lines { exit_status result ≡ 1 → TookLines (device_of E.state err.old err.new) }
-    ensures unprinted { words_fault (map string_bytes texts.now) ≢ [] → exit_status result ≡ 4
-        → LacksPrint (device_of O.state out.old out.new)
-        (device_of E.state err.old err.new) (exit_status result) }
-
-    // At status 0 `err` has taken nothing and `out` the whole text. Unless `out` failed, nothing is
-    // printed at statuses other than 0 and 3. If it failed, the status is 3, or 4 with the line for
-    // that. Refused memory is reported as such; only a request may have a reason for it.
-    ensures finished { exit_status result ≡ 0
-        → ((O.state out.new).failures ≡ 0) × (err.new ≡ err.old) }
-    ensures quiet { exit_status result ≢ 0 → exit_status result ≢ 3
-        → (O.state out.new).failures ≡ 0 → out.new ≡ out.old }
-    ensures failed { (O.state out.new).failures ≢ 0
-        → (exit_status result ≡ 3) ⊎ ((exit_status result ≡ 4)
-        × TookText (device_of E.state err.old err.new) print_line) }
-    ensures memory { exit_status result ≡ 5 → (out.new ≡ out.old)
-        × TookMemoryLine (device_of E.state err.old err.new) }
-    ensures unread { words_fault (map string_bytes texts.now) ≢ [] → exit_status result ≡ 5
-        → LacksMemory (device_of E.state err.old err.new) (exit_status result) }
+    ensures sound { StaysSound (T.state files.old) (T.state files.new) (exit_status result) }
+    ensures prints { PrintsByStatus O.state E.state out.old out.new
+        err.old err.new (exit_status result) }
 {
     let words = match words_of(alloc, texts) {
         Ok(words) => words,

@@ -1,4 +1,4 @@
-use Rattle.std.proofs.Common.{refl, inl, inr}
+use Rattle.std.proofs.Common.{rules, refl, inl, inr}
 use Rattle.fq_app_words.specs.Requests.{asking_of}
 use Rattle.fq_app.proofs.AnswerLemmas.{memory_took}
 use Rattle.fq_app.proofs.answering.tell.Goals as goal
@@ -13,9 +13,13 @@ returns-in-Failed-clause-line g c =
     ))
 
 -- memory for the report was refused, and standard error took the line for it
-pub returns-in-OutOfMemory-clause-memory : goal.returns-in-OutOfMemory-clause-memory
-returns-in-OutOfMemory-clause-memory g c =
-    λ five. (
-      refl,
-      memory_took (asking_of c.args.request.now).explain _ _ c.lacks_report.ensures.told,
-    )
+pub returns-in-OutOfMemory-clause-prints : goal.returns-in-OutOfMemory-clause-prints
+returns-in-OutOfMemory-clause-prints g c = record {
+  finished = search rules;
+  quiet = search rules;
+  failed = search rules;
+  memory = λ five. (
+    refl,
+    memory_took (asking_of c.args.request.now).explain _ _ c.lacks_report.ensures.told,
+  );
+}

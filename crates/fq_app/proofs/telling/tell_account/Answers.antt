@@ -25,13 +25,18 @@ returns-then-matches-clause-line g c = λ some.
     ]
 
 -- at status 5 standard error took the line for refused memory
-pub returns-clause-memory : goal.returns-clause-memory
-returns-clause-memory g c = λ five.
+pub returns-clause-prints : goal.returns-clause-prints
+returns-clause-prints g c =
     let asked : Option Asking = option_map (λ r. asking_of r.now) c.args.request in
-    let err : Device = device_of g.E.Outlet.state c.args.err.now c.send_line-2.new.err in (
-      search rules,
-      told_memory asked c.args.seen.now c.args.account.now.outcome err
-          (sym c.status_of-status.ensures ∙ five)
-          (subst (λ (text : List ℕ). TookText err text)
-          (c.as_str.ensures.value ∙ c.in-Ok.ensures) c.send_line-2.ensures.told),
-    )
+    let err : Device = device_of g.E.Outlet.state c.args.err.now c.send_line-2.new.err in record {
+      finished = search rules;
+      quiet = search rules;
+      failed = search rules;
+      memory = λ five. (
+        search rules,
+        told_memory asked c.args.seen.now c.args.account.now.outcome err
+            (sym c.status_of-status.ensures ∙ five)
+            (subst (λ (text : List ℕ). TookText err text)
+            (c.as_str.ensures.value ∙ c.in-Ok.ensures) c.send_line-2.ensures.told),
+      );
+    }
