@@ -25,9 +25,9 @@ use Rattle.fq_app_files.specs.Leaving.{RefusalLeaves, ReportLeft, HoldFirstPairs
 use Rattle.fq_app_files.proofs.EndingLemmas.{done_is_whole, ends_so}
 use Rattle.fq_app_files.proofs.LeavingLemmas.{refusal_untrimmed, report_untrimmed, whole_first}
 use Rattle.fq_app_files.specs.Refusals.{status_of, IsRefusable}
-use Rattle.fq_app.specs.Answers.{Device, EndsWhole, IsRefusal, IsEnding, IsUnprinted, IsUntold, IsUnreported, IsReportLeft, IsReportUncut, LacksMemory, TookMemoryLine, TookText, NamesRefused, NamesDevice, PairsAnswered, Refuses, Tells, TookLine, memory_line, print_line}
+use Rattle.fq_app.specs.Answers.{Device, EndsWhole, IsRefusal, IsEnding, IsUnprinted, IsUntold, IsUnreported, IsReportLeft, IsReportUncut, LacksMemory, TookMemoryLine, TookReportLine, TookText, NamesRefused, NamesDevice, PairsAnswered, Refuses, Tells, TookLine, memory_line, print_line}
 use Rattle.fq_app_files.specs.declared.refusal.Refusal.{Refusal}
-use Rattle.fq_app_files.specs.Seeing.{IsItsError, IsSaid}
+use Rattle.fq_app_files.specs.Seeing.{IsItsError, IsReportError, IsSaid}
 use Rattle.fq_app_files.specs.declared.seeing.EndingSeen.{EndingSeen}
 use Rattle.fq_app_files.specs.declared.reporting.Reported.{Reported}
 use Rattle.fq_app_files.specs.declared.reporting.Reported.TheVariants as report
@@ -209,6 +209,11 @@ is_wanted : (o : Option (List ℕ)) (name : List ℕ) → o ≡ Some name → Is
 is_wanted (Some n) name e = refl
 is_wanted None name e = absurd cc
 
+-- an option that is not `None` holds a value
+pub some_in : {X : Type 0} (o : Option X) → IsSome o → (x : X) × (o ≡ Some x)
+some_in (Some x) is = (x, refl)
+some_in None is = absurd cc
+
 not_lane : (outcome : Outcome) → (outcome_status outcome ≡ 0) ⊎ (outcome_status outcome ≡ 3) →
     outcome ≢ Lane
 not_lane outcome is lane =
@@ -254,8 +259,8 @@ module _ (a : Asking) (old new : FilesState) (outcome : Outcome) (counts : Count
   -- the line of a run that was made
   pub told_line : (seen : EndingSeen)
       (said : IsTrue old.tells → IsSaid a.inputs old.bytes (settled outcome) seen)
-      (its_error : IsItsError a old.may_say (settled outcome) seen)
-      (error : Option SystemError) (report_error : MaySay old.may_say a.report error)
+      (its_error : IsItsError a old.may_say outcome seen)
+      (error : Option SystemError) (report_error : IsReportError a old.may_say reported error)
       (out err : Device) (status : ℕ) →
       Tells a seen outcome reported error out err status → TookLine a old new out err status
   told_line seen said its_error error report_error out err status (inl (which, inl ending)) =
@@ -300,11 +305,12 @@ module _ (a : Asking) (old new : FilesState) (outcome : Outcome) (counts : Count
       (λ tells. inr (outcome, run.ended tells untold.0)) (λ tells. is_uncut which tells)
   told_line seen said its_error error report_error out err status (inr (inl failed)) =
       let due = due_as report.Failed failed.0 (λ e. absurd (cc e)) in
-      let unreported : (text : List ℕ) → (text ≡ report_line a (Some error))
+      let why = some_in error (report_error.some failed.0) in
+      let unreported : (text : List ℕ) → (text ≡ report_line a (Some (Some why.0)))
       ⊎ (text ≡ report_line a None) → IsUnreported a old new status text =
       λ text is. record {
-        said = error;
-        its_error = report_error;
+        said = why.0;
+        its_error = subst (MaySay old.may_say a.report) why.1 report_error.may;
         status_is = failed.1;
         text_is = is;
         left = λ tells. (
@@ -317,9 +323,10 @@ module _ (a : Asking) (old new : FilesState) (outcome : Outcome) (counts : Count
       } in
       ⊎_elim
       (λ took. record {
-        text = report_line a (Some error);
-        fits = inr (inr (inr (unreported (report_line a (Some error)) (inl refl))));
-        took = took;
+        text = report_line a (Some (Some why.0));
+        fits = inr (inr (inr (unreported _ (inl refl))));
+        took = subst (λ (told : Option SystemError). TookText err (report_line a (Some told)))
+            why.1 took;
       })
       (λ took. record {
         text = report_line a None;
@@ -365,7 +372,7 @@ four_not_lane outcome four lane = let six : outcome_status outcome ≡ 6 = ap ou
 pub failed_device : (a : Asking) (old new : FilesState)
     (out err : Device) (status : ℕ) (seen : EndingSeen) (outcome : Outcome)
     (reported : Reported) (error : Option SystemError) →
-    IsItsError a old.may_say (settled outcome) seen → MaySay old.may_say a.report error →
+    IsItsError a old.may_say outcome seen → IsReportError a old.may_say reported error →
     (outcome ≢ Lane → HasFailed a old new outcome) →
     (IsTrue old.tells → settled outcome ≡ outcome) →
     (reported ≡ report.Failed → ReportFailed a new)
@@ -392,11 +399,12 @@ failed_device a old new out err status seen outcome reported error its_error rep
     absurd (four_not_five status four untold.1.status_is)
 failed_device a old new out err status seen outcome reported error its_error report_error fails
     as_it_is report_fails (inr (inl unwritten)) four =
+    let why = some_in error (report_error.some unwritten.0) in
     inr (inr (inr (record {
-      said = error;
-      told = unwritten.2;
+      said = why.0;
+      told = subst (λ (told : Option SystemError). TookReportLine a told err) why.1 unwritten.2;
       has_failed = report_fails unwritten.0;
-      its_error = report_error;
+      its_error = subst (MaySay old.may_say a.report) why.1 report_error.may;
     })))
 failed_device a old new out err status seen outcome reported error its_error report_error fails
     as_it_is report_fails (inr (inr lacks)) four =
@@ -452,11 +460,6 @@ left_so a old new out err status whole line other tells = ⊎_elim
     (λ some. let took = line some in fits_left a old new out status took.text took.fits other
     tells)
     (zero_or status)
-
--- an option that is not `None` holds a value
-pub some_in : {X : Type 0} (o : Option X) → IsSome o → (x : X) × (o ≡ Some x)
-some_in (Some x) is = (x, refl)
-some_in None is = absurd cc
 
 -- a property of all kinds in a list holds for each of them
 pub among_all : (P : ErrorKind → Type 0) (kind : ErrorKind) (kinds : Kinds) → IsAmong kind kinds →

@@ -118,7 +118,7 @@ pub record IsEnding (a : Asking)
   pub text_is : ending_line a seen outcome ≡ text
   pub no_gate : outcome ≢ Gate
   pub said : IsTrue old.tells → IsSaid a.inputs old.bytes (settled outcome) seen
-  pub its_error : IsItsError a old.may_say (settled outcome) seen
+  pub its_error : IsItsError a old.may_say outcome seen
   pub left : IsTrue old.tells → outcome ≢ Lane → HoldFirstPairs a old.bytes new.bytes outcome
   pub unreported : IsTrue old.tells → outcome_status outcome ≢ 0 →
       outcome_status outcome ≢ 3 → (name : List ℕ) → a.report ≡ Some name →
@@ -140,10 +140,10 @@ pub record IsUnprinted (a : Asking)
 -- be written, for what its device said
 pub record IsUnreported (a : Asking)
     (old new : FilesState) (status : ℕ) (text : List ℕ) : Type 0 where
-  pub said : Option SystemError
-  pub its_error : MaySay old.may_say a.report said
+  pub said : SystemError
+  pub its_error : MaySay old.may_say a.report (Some said)
   pub status_is : status ≡ 4
-  pub text_is : (text ≡ report_line a (Some said)) ⊎ (text ≡ report_line a None)
+  pub text_is : (text ≡ report_line a (Some (Some said))) ⊎ (text ≡ report_line a None)
   pub left : IsTrue old.tells →
       (outcome : Outcome) × (counts : Counts) × TrimsFiles a old.bytes new.bytes outcome counts
   pub begun : IsTrue old.tells → (name : List ℕ) →
@@ -219,15 +219,15 @@ pub record NamesFailed (a : Asking) (old new : FilesState) (err : Device) : Type
   pub status_is : outcome_status outcome ≡ 4
   pub told : TookText err (ending_line a seen outcome)
   pub has_failed : HasFailed a old new outcome
-  pub its_error : IsItsError a old.may_say (settled outcome) seen
+  pub its_error : IsItsError a old.may_say outcome seen
   pub as_it_is : IsTrue old.tells → settled outcome ≡ outcome
 
 -- the report's device has failed, and may say the error that is told
 pub record NamesReport (a : Asking) (old new : FilesState) (err : Device) : Type 0 where
-  pub said : Option SystemError
-  pub told : TookReportLine a said err
+  pub said : SystemError
+  pub told : TookReportLine a (Some said) err
   pub has_failed : ReportFailed a new
-  pub its_error : MaySay old.may_say a.report said
+  pub its_error : MaySay old.may_say a.report (Some said)
 
 -- the line names a refused file, a failed device or an endless input; or standard output or the
 -- report's device has failed

@@ -11,8 +11,9 @@ ghost use Rattle.fq_app_files.specs.Judging.{settings_of, wrong_with};
 ghost use Rattle.fq_app_files.specs.Trimming.{KeepsUnnamed, opened_of, left_of, form_of, run_in, AreFresh};
 ghost use Rattle.fq_app_files.specs.Opening.{AreReady, AreOpened, IsRefused, SparesInputs};
 ghost use Rattle.fq_app_files.specs.Completing.{IsCompleted, IsWitnessed};
+ghost use Rattle.fq_app_files.specs.Seeing.{IsReportError};
 ghost use Rattle.fq_files.specs.Holding.{IsUnchanged};
-ghost use Rattle.fq_files.specs.States.{FilesState, IsSound, MaySay, OnlyStores};
+ghost use Rattle.fq_files.specs.States.{FilesState, IsSound, OnlyStores};
 
 use fq_app_files::{
     Account, Devices, EndingSeen, Feeds, Refusal, Reported, inputs_done, judge, open, seen_of,
@@ -59,8 +60,8 @@ pub fn trim_files<R: Threads + Wait + Copy + Send + 'static, T: Files>(
     ensures refused { IfErr result (λ why.
         IsRefused (asking_of request.now) why (T.state files.old) (T.state files.new)) }
     ensures unfailed { OnErr result (IsSound (T.state files.old) (T.state files.new)) }
-    ensures report_says { IfOk result (λ completed. MaySay (T.state files.old).may_say
-        (asking_of request.now).report completed.report_error) }
+    ensures report_says { IfOk result (λ completed. IsReportError (asking_of request.now)
+        (T.state files.old).may_say completed.reported completed.report_error) }
 
     ensures rest { IsTrue (T.state files.old).tells
         → KeepsUnnamed (asking_of request.now)
@@ -116,8 +117,8 @@ fn complete<R: Threads + Wait + Copy + Send + 'static, T: Files>(
         → wrong_with (asking_of request.now) ≡ None
         → IsCompleted (asking_of request.now) start (T.state files.new)
         result.account.outcome result.account.counts result.reported result.seen }
-    ensures report_says { MaySay (T.state files.old).may_say
-        (asking_of request.now).report result.report_error }
+    ensures report_says { IsReportError (asking_of request.now)
+        (T.state files.old).may_say result.reported result.report_error }
     ensures kept { OnlyStores (T.state files.old) (T.state files.new) }
     ensures witnessed { IsWitnessed result.account }
     ensures no_gate { result.account.outcome ≢ Outcome.Gate }

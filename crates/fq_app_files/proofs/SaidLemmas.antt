@@ -1,5 +1,5 @@
 -- What is said of an outcome.
-use Rattle.std.proofs.Common.{◌≡◌, ◌∙◌, ℕ, IsSome, Option, Some, None, List, refl, sym, ap, subst}
+use Rattle.std.proofs.Common.{◌≡◌, ◌≢◌, ◌∙◌, ℕ, IsSome, Option, Some, None, is_some, List, refl, sym, ap, subst, arith}
 use Rattle.std.specs.Prelude.{unwrap_or}
 use Rattle.fq_text.specs.Devices.{FeedState}
 use Rattle.fq_text.specs.declared.seen.SystemError.{SystemError}
@@ -15,10 +15,12 @@ use Rattle.fq_pair.specs.declared.fault.InputFault.TheVariants.{Text, MateMissin
 use Rattle.fq_run_core.specs.declared.outcome.Outcome.{Outcome}
 use Rattle.fq_run_core.specs.declared.outcome.Outcome.TheVariants.{Spawn, Lane, Gate, Memory, Write, Read, Endless, Input, Finished}
 use Rattle.fq_run_core.specs.declared.outlets.Outlets.{Outlets}
-use Rattle.fq_run_core.specs.Endings.{failures_in}
+use Rattle.fq_run_core.specs.Choices.{Choices}
+use Rattle.fq_run_core.specs.Endings.{EveryEnding, Run, failures_in, feed_left}
 use Rattle.fq_app_words.specs.Requests.{Asking, InputNames, input_name}
 use Rattle.fq_app_files.specs.Faults.{settled}
-use Rattle.fq_app_files.specs.Seeing.{FailAsTheyDid, InputsMaySay, IsItsError, IsSaid, LookAsTheyAre, OutputsMaySay, seen_when}
+use Rattle.fq_app_files.proofs.FailureLemmas.{wanted_output, write_failed}
+use Rattle.fq_app_files.specs.Seeing.{InputsMaySay, InputsTellWhy, IsItsError, IsSaid, LookAsTheyAre, OutputsMaySay, OutputsTellWhy, file_of, seen_when}
 use Rattle.fq_app_files.specs.declared.feeds.InputsSeen.{InputsSeen}
 use Rattle.fq_app_files.specs.declared.seeing.EndingSeen.{EndingSeen}
 
@@ -45,7 +47,7 @@ pub is_said : (names : InputNames) (old now : Holding) (outcome : Outcome)
     seen ≡ seen_when unmatched said errors (settled outcome) →
     ((side : Side) → left side ≡ None → outcome ≡ Spawn) →
     ((side : Side) → now (input_name names side) ≡ old (input_name names side)) →
-    LookAsTheyAre names now left said → FailAsTheyDid left said →
+    LookAsTheyAre names now left said → InputsTellWhy left said →
     ((side : Side) (fault : TextFault) → settled outcome ≡ Input (Text side fault) →
     (failures_in (left Forward) ≡ 0) × (failures_in (left Reverse) ≡ 0)) →
     IsSaid names old (settled outcome) seen
@@ -58,7 +60,7 @@ is_said names old now outcome left said errors unmatched seen is returned kept l
           (kept side ∙ held);
       no_error = λ side fault at.
           ap (λ (s : EndingSeen). s.error) (is ∙ ap (seen_when unmatched said errors) at)
-          ∙ fails side (on_side left side (sound side fault at));
+          ∙ (fails side).0 (on_side left side (sound side fault at));
     }
 
 -- where no error is told, each that is told is right
@@ -99,7 +101,7 @@ module _ (a : Asking) (may_say : Errors) (said : InputsSeen) (errors : Outlets (
     (unmatched : Option MateNames) (inputs : InputsMaySay a.inputs may_say said)
     (outputs : OutputsMaySay a may_say errors) where
   error_when : (outcome : Outcome) →
-      IsItsError a may_say outcome (seen_when unmatched said errors outcome)
+      MaySay may_say (file_of a outcome) (seen_when unmatched said errors outcome).error
   error_when (Write out) = outputs out
   error_when (Read side) = inputs side
   error_when (Input (Text side fault)) = inputs side
@@ -112,8 +114,32 @@ module _ (a : Asking) (may_say : Errors) (said : InputsSeen) (errors : Outlets (
   error_when Memory = none_said may_say None None refl
   error_when Finished = none_said may_say None None refl
 
-  -- the error that is told is one of the device that the outcome names
-  pub its_error : (outcome : Outcome) (seen : EndingSeen) →
-      seen ≡ seen_when unmatched said errors outcome → IsItsError a may_say outcome seen
-  its_error outcome seen is =
-      subst (λ (s : EndingSeen). IsItsError a may_say outcome s) (sym is) (error_when outcome)
+  -- the error that is told is one of the device that the outcome names, and it is told if that
+  -- device has failed
+  pub its_error : (c : Choices) (run : Run) (left : Side → Option FeedState) (seen : EndingSeen) →
+      seen ≡ seen_when unmatched said errors (settled run.outcome) →
+      is_some run.outlets.log ≡ is_some a.log → ((side : Side) → feed_left side run ≡ left side) →
+      (run.outcome ≢ Lane → EveryEnding c run) → InputsTellWhy left said →
+      OutputsTellWhy a run.outlets_left errors → IsItsError a may_say run.outcome seen
+  its_error c run left seen is log sides every fed stored =
+      let at : (outcome : Outcome) → run.outcome ≡ outcome →
+      IsSome (seen_when unmatched said errors (settled outcome)).error → IsSome seen.error =
+      λ outcome named. subst (λ (told : Option SystemError). IsSome told) (sym
+      (ap (λ (s : EndingSeen). s.error) is
+      ∙ ap (λ (o : Outcome). (seen_when unmatched said errors (settled o)).error) named)) in
+      record {
+        may = subst (λ (s : EndingSeen). MaySay may_say (file_of a (settled run.outcome)) s.error)
+            (sym is) (error_when (settled run.outcome));
+        write = λ out named.
+            let no_lane : run.outcome ≢ Lane = λ lane. let bad : Write out ≡ Lane =
+            sym named ∙ lane in absurd cc in
+            let had = write_failed c run (every no_lane) out named in
+            let name = wanted_output a run.outlets log out had.was in
+            at (Write out) named ((stored out name.0 had.outlet name.1 had.is).1 had.some);
+        read = λ side named.
+            let no_lane : run.outcome ≢ Lane = λ lane. let bad : Read side ≡ Lane =
+            sym named ∙ lane in absurd cc in
+            let one = subst (λ (feed : Option FeedState). failures_in feed ≡ 1) (sides side)
+            ((every no_lane).outcome.read side named) in
+            at (Read side) named ((fed side).1 (omega (arith, one)));
+      }

@@ -101,7 +101,7 @@ pub record IsCompleted (a : Asking) (old new : FilesState)
   pub failed : outcome ≢ Lane → HasFailed a old new outcome
   pub as_it_is : IsTrue old.tells → settled outcome ≡ outcome
   pub said : IsTrue old.tells → IsSaid a.inputs old.bytes (settled outcome) seen
-  pub its_error : IsItsError a old.may_say (settled outcome) seen
+  pub its_error : IsItsError a old.may_say outcome seen
   pub report_failed : reported ≡ became.Failed → ReportFailed a new
   pub sound : IsTrue (ends_whole outcome) → reported ≢ became.Failed →
       new.has_failed ≡ old.has_failed

@@ -1,11 +1,12 @@
 -- What can be said of the outcome of a run.
-use Rattle.std.specs.Prelude.{◌≡◌, ℕ, IsSome, Option, Some, None, List, unwrap_or}
-use Rattle.fq_text.specs.Devices.{FeedState}
+use Rattle.std.specs.Prelude.{◌≡◌, ◌≢◌, ℕ, IsSome, Option, Some, None, List, unwrap_or}
+use Rattle.fq_text.specs.Devices.{FeedState, OutletState}
 use Rattle.fq_text.specs.declared.fault.TextFault.{TextFault}
 use Rattle.fq_text.specs.Looks.{look_of}
 use Rattle.fq_files.specs.Holding.{Holding}
-use Rattle.fq_files.specs.States.{Errors, MaySay}
+use Rattle.fq_files.specs.States.{Errors, MaySay, TellsWhy}
 use Rattle.fq_app_words.specs.Requests.{Asking, InputNames, input_name, output_name}
+use Rattle.fq_run_core.specs.Devices.{OutletStates, outlet_at}
 use Rattle.fq_run_core.specs.Endings.{failures_in}
 use Rattle.fq_text.specs.declared.seen.Look.TheVariants.{Unknown}
 use Rattle.fq_text.specs.declared.seen.Seen.{Seen}
@@ -19,7 +20,10 @@ use Rattle.fq_pair.specs.Mates.{MateNames}
 use Rattle.fq_run_core.specs.declared.outcome.Outcome.{Outcome}
 use Rattle.fq_run_core.specs.declared.outcome.Outcome.TheVariants.{Write, Read, Input}
 use Rattle.fq_run_core.specs.declared.outlets.Outlets.{Outlets}
+use Rattle.fq_app_files.specs.Faults.{settled}
 use Rattle.fq_app_files.specs.declared.feeds.InputsSeen.{InputsSeen}
+use Rattle.fq_app_files.specs.declared.reporting.Reported.{Reported}
+use Rattle.fq_app_files.specs.declared.reporting.Reported.TheVariants.{Failed}
 use Rattle.fq_app_files.specs.declared.seeing.EndingSeen.{EndingSeen}
 
 -- what the input of a side can say
@@ -40,10 +44,16 @@ abbrev pub LookAsTheyAre : InputNames → Holding → (Side → Option FeedState
 LookAsTheyAre names files left said = (side : Side) (bytes : List ℕ) → IsSome (left side) →
     files (input_name names side) ≡ Some bytes → (input_seen said side).look ≡ look_of bytes
 
--- no error is told of an input that has not failed
-abbrev pub FailAsTheyDid : (Side → Option FeedState) → InputsSeen → Type 0
-FailAsTheyDid left said = (side : Side) → failures_in (left side) ≡ 0 →
-    (input_seen said side).error ≡ None
+-- an error is told of each input that has failed, and of no other
+abbrev pub InputsTellWhy : (Side → Option FeedState) → InputsSeen → Type 0
+InputsTellWhy left said = (side : Side) →
+    TellsWhy (failures_in (left side)) (input_seen said side).error
+
+-- and of each output
+abbrev pub OutputsTellWhy : Asking → OutletStates → Outlets (Option SystemError) → Type 0
+OutputsTellWhy a outlets errors = (out : Out) (name : List ℕ) (outlet : OutletState) →
+    output_name a out ≡ Some name → outlet_at out outlets ≡ Some outlet →
+    TellsWhy outlet.failures (error_of errors out)
 
 -- what is said of an input whose text has a fault: it looks like its first bytes, and no error is
 -- told of it
@@ -63,9 +73,21 @@ file_of a (Read side) = Some (input_name a.inputs side)
 file_of a (Input (Text side fault)) = Some (input_name a.inputs side)
 file_of a _ = None
 
--- an error is told only of the file that the outcome names, and a device of its name may say it
-abbrev pub IsItsError : Asking → Errors → Outcome → EndingSeen → Type 0
-IsItsError a may_say outcome seen = MaySay may_say (file_of a outcome) seen.error
+-- An error is told only of the file that the outcome names, and a device of its name may say it.
+-- If the outcome is that a device has failed, one is told.
+pub record IsItsError (a : Asking) (may_say : Errors)
+    (outcome : Outcome) (seen : EndingSeen) : Type 0 where
+  pub may : MaySay may_say (file_of a (settled outcome)) seen.error
+  pub write : (out : Out) → outcome ≡ Write out → IsSome seen.error
+  pub read : (side : Side) → outcome ≡ Read side → IsSome seen.error
+
+-- an error is told of a report that could not be written, and of no other; a device of its name may
+-- say it
+pub record IsReportError (a : Asking) (may_say : Errors)
+    (reported : Reported) (told : Option SystemError) : Type 0 where
+  pub may : MaySay may_say a.report told
+  pub some : reported ≡ Failed → IsSome told
+  pub none : reported ≢ Failed → told ≡ None
 
 -- so it is with each input
 abbrev pub InputsMaySay : InputNames → Errors → InputsSeen → Type 0

@@ -2,14 +2,14 @@
 
 ghost use Rattle.std.specs.Prelude.{◌≡◌, ◌≢◌, ℕ, List, Some, None, IsTrue, IsSome, IfOk, IfErr};
 ghost use Rattle.std.specs.Option.{option_map};
-ghost use Rattle.fq_files.specs.States.{MayRefuse, MaySay, OnlyFails, OnlyOpens};
+ghost use Rattle.fq_files.specs.States.{MayRefuse, MaySay, OnlyFails, OnlyOpens, TellsWhy};
 ghost use Rattle.fq_files.specs.declared.files.Cause.TheVariants.{Input};
 ghost use Rattle.fq_app_words.specs.Requests.{asking_of, input_name};
 ghost use Rattle.fq_app_files.specs.Trimming.{opened_of, left_of, form_of};
 ghost use Rattle.fq_app_files.specs.Leaving.{AreThere};
 ghost use Rattle.fq_app_files.specs.Opening.{AreInputsOpened, AreInputsRefused, IsInputOpened, IsInputRefused, MayLead};
 ghost use Rattle.fq_app_files.specs.Completing.{IsFeedCounted, AreFeedsCounted};
-ghost use Rattle.fq_app_files.specs.Seeing.{LookAsTheyAre, FailAsTheyDid, InputsMaySay};
+ghost use Rattle.fq_app_files.specs.Seeing.{LookAsTheyAre, InputsMaySay, InputsTellWhy};
 ghost use Rattle.fq_run_core.specs.Endings.{failures_in};
 ghost use Rattle.fq_text.specs.Looks.{look_of};
 
@@ -97,7 +97,7 @@ pub fn inputs_done<T: Files>(
     ensures looks { IsTrue (T.state files.old).tells
         → LookAsTheyAre (asking_of request.now).inputs (T.state files.old).bytes
         (left_of T.In.state feeds) result }
-    ensures why { FailAsTheyDid (left_of T.In.state feeds) result }
+    ensures why { InputsTellWhy (left_of T.In.state feeds) result }
     ensures says { InputsMaySay (asking_of request.now).inputs (T.state files.old).may_say result }
 {
     match feeds {
@@ -132,7 +132,7 @@ fn input_done<T: Files>(
         → IsSome (option_map T.In.state feed)
         → (T.state files.old).bytes (input_name (asking_of request.now).inputs side) ≡ Some bytes
         → result.look ≡ look_of bytes }
-    ensures why { failures_in (option_map T.In.state feed) ≡ 0 → result.error ≡ None }
+    ensures why { TellsWhy (failures_in (option_map T.In.state feed)) result.error }
     ensures says { MaySay (T.state files.old).may_say
         (Some (input_name (asking_of request.now).inputs side)) result.error }
 {

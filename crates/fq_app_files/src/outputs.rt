@@ -1,11 +1,11 @@
 //! Makes the files of the outputs, and hands their outlets back after the run.
 
 ghost use Rattle.std.specs.Prelude.{IsTrue, IsSome, IfOk, IfErr};
-ghost use Rattle.fq_files.specs.States.{MaySay, OnlyStores, OnlyWrites, StillHeld};
+ghost use Rattle.fq_files.specs.States.{MaySay, OnlyStores, OnlyWrites, StillHeld, TellsWhy};
 ghost use Rattle.fq_run_core.specs.Devices.{outlet_states};
 ghost use Rattle.fq_app_words.specs.Requests.{asking_of, output_name};
 ghost use Rattle.fq_app_files.specs.Trimming.{AreHeld};
-ghost use Rattle.fq_app_files.specs.Seeing.{OutputsMaySay};
+ghost use Rattle.fq_app_files.specs.Seeing.{OutputsMaySay, OutputsTellWhy};
 ghost use Rattle.fq_app_files.specs.Making.{AreOutputsMade, AreOutputsRefused, AreOutputsStored, IsOutputMade, IsOutputRefused, IsOutputStored};
 
 use crate::refusal::{Refusal, target_refused};
@@ -74,6 +74,8 @@ pub fn store<T: Files>(
     ensures stored { AreOutputsStored (asking_of request.now)
         (outlet_states T.Target.state outlets) (T.state files.old) (T.state files.new) }
     ensures says { OutputsMaySay (asking_of request.now) (T.state files.old).may_say result }
+    ensures why { OutputsTellWhy (asking_of request.now)
+        (outlet_states T.Target.state outlets) result }
     ensures names { StillHeld (T.state files.old) (T.state files.new) }
     ensures kept { OnlyStores (T.state files.old) (T.state files.new) }
 {
@@ -117,6 +119,7 @@ fn store_one<T: Files>(
         (T.Target.state outlet) (T.state files.old) (T.state files.new) }
     ensures says { MaySay (T.state files.old).may_say
         (output_name (asking_of request.now) out) result }
+    ensures why { TellsWhy (T.Target.state outlet).failures result }
     ensures names { StillHeld (T.state files.old) (T.state files.new) }
     ensures kept { OnlyStores (T.state files.old) (T.state files.new) }
 {

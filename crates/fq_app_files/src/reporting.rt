@@ -2,13 +2,14 @@
 
 ghost use Rattle.std.specs.Prelude.{◌≡◌, ℕ, List, Some, None, [], option_map, IfOk, OnOk, OnErr, IfErr};
 ghost use Rattle.std.specs.String.{string_bytes};
-ghost use Rattle.fq_files.specs.States.{MaySay, OnlyStores, OnlyWrites, StillHeld};
+ghost use Rattle.fq_files.specs.States.{OnlyStores, OnlyWrites, StillHeld};
 ghost use Rattle.fq_text.specs.Written.{line};
 ghost use Rattle.fq_report.specs.Reports.{text_of};
 ghost use Rattle.fq_app_words.specs.Requests.{asking_of};
 ghost use Rattle.fq_app_files.specs.Reporting.{run_facts, IsDue, IsReportOpen, IsReportWritten, IsSent, IsSentInPart, KeepsOutputs};
 ghost use Rattle.fq_app_files.specs.Opening.{IsReportMade, IsReportRefused};
 ghost use Rattle.fq_app_files.specs.Completing.{IsReportStored};
+ghost use Rattle.fq_app_files.specs.Seeing.{IsReportError};
 
 use crate::account::Account;
 use crate::outcome_line::{fault_line, status_of};
@@ -70,7 +71,8 @@ pub fn store_report<T: Files>(
         (T.state files.old) (option_map T.Target.state target) }
     ensures stored { IsReportStored (asking_of request.now) encoding account.now
         (option_map T.Target.state target) result.0 (T.state files.old) (T.state files.new) }
-    ensures says { MaySay (T.state files.old).may_say (asking_of request.now).report result.1 }
+    ensures says { IsReportError (asking_of request.now)
+        (T.state files.old).may_say result.0 result.1 }
     ensures kept { OnlyStores (T.state files.old) (T.state files.new) }
 {
     match (request.report, target) {

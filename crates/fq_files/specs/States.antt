@@ -1,5 +1,5 @@
 -- Files as contracts see them, and what a call leaves as it was.
-use Rattle.std.specs.Prelude.{◌≡◌, ◌⊎◌, ℕ, Bool, false, IsTrue, Option, Some, None, List}
+use Rattle.std.specs.Prelude.{◌≡◌, ◌<◌, ◌⊎◌, ℕ, Bool, false, IsTrue, IsSome, Option, Some, None, List}
 use Rattle.fq_files.specs.Holding.{Holding, KeepsNames}
 use Rattle.fq_text.specs.declared.seen.SystemError.{SystemError}
 use Rattle.fq_files.specs.declared.files.Cause.{Cause}
@@ -59,6 +59,10 @@ pub record MayRefuseInput (files : FilesState) (IsInput : Type 0)
 abbrev pub MaySay : Errors → Option (List ℕ) → Option SystemError → Type 0
 MaySay may_say named told = (error : SystemError) → told ≡ Some error →
     (name : List ℕ) × (named ≡ Some name) × IsTrue (may_say name error)
+
+-- an error is told of a device that has failed, and of no other
+abbrev pub TellsWhy : ℕ → Option SystemError → Type 0
+TellsWhy failures told = (failures ≡ 0 → told ≡ None) × (0 < failures → IsSome told)
 
 -- only which names lead to an input has changed
 abbrev pub OnlyOpens : FilesState → FilesState → Type 0

@@ -3,7 +3,7 @@
 ghost use Rattle.std.specs.Prelude.{◌≡◌, ◌≢◌, ◌<◌, ◌⊎◌, ℕ, List, false, Some, Err, [], IsTrue, IsSome, IfOk, OnOk, OnErr};
 ghost use Rattle.fq_text.specs.Looks.{look_of};
 ghost use Rattle.fq_files.specs.Holding.{KeepsOthers};
-ghost use Rattle.fq_files.specs.States.{FilesState, KeepsFailed, MayRefuse, MayRefuseInput, MaySay, OnlyOpens, OnlyFails, OnlyWrites, OnlyStores, StillHeld};
+ghost use Rattle.fq_files.specs.States.{FilesState, KeepsFailed, MayRefuse, MayRefuseInput, MaySay, TellsWhy, OnlyOpens, OnlyFails, OnlyWrites, OnlyStores, StillHeld};
 
 use fq_text::{Feed, OutOfMemory, Outlet, Seen, SystemError};
 use thiserror::Error;
@@ -82,13 +82,13 @@ pub trait Files {
             → IsTrue ((state self.new).is_open other)
             → MayRefuse (state self.old) other Cause.Input };
 
-    /// Hands a feed back: if it failed, a device of this name has failed. Returns why, and what the
-    /// file looks like, as far as that is known. No file changes. The name must be held, as it is
-    /// once [`source`](Files::source) has returned `Ok` for it.
+    /// Hands a feed back: if it failed, a device of this name has failed. Returns why if it failed,
+    /// and what the file looks like, as far as that is known. No file changes. The name must be
+    /// held, as it is once [`source`](Files::source) has returned `Ok` for it.
     fn source_done(&mut self, name: &str, feed: Self::In) -> Seen
         requires { IsTrue (state self.old).tells → IsSome ((state self.old).bytes name.now) }
         ensures kept { OnlyFails (state self.old) (state self.new) }
-        ensures why { (Self.In.state feed).failures ≡ 0 → result.error ≡ None }
+        ensures why { TellsWhy (Self.In.state feed).failures result.error }
         ensures says { MaySay (state self.old).may_say (Some name.now) result.error }
         ensures look { IsTrue (state self.old).tells → (bytes : List ℕ)
             → (state self.old).bytes name.now ≡ Some bytes → result.look ≡ look_of bytes }
@@ -137,8 +137,8 @@ pub trait Files {
             → MayRefuse (state self.old) name.now cause };
 
     /// Hands an outlet back: the file holds what the outlet has taken, and if the outlet failed, a
-    /// device of this name has failed. Returns why, as far as that is known. The name must be held,
-    /// as it is once [`target`](Files::target) has returned `Ok` for it.
+    /// device of this name has failed. Returns why if it failed. The name must be held, as it is
+    /// once [`target`](Files::target) has returned `Ok` for it.
     fn done(&mut self, name: &str, target: Self::Target) -> Option<SystemError>
         requires { IsTrue (state self.old).tells → IsSome ((state self.old).bytes name.now) }
         ensures stored { IsTrue (state self.old).tells → IsTrue (Self.Target.state target).tells
@@ -147,7 +147,7 @@ pub trait Files {
         ensures others { IsTrue (state self.old).tells
             → KeepsOthers (state self.old).bytes (state self.new).bytes name.now }
         ensures kept { OnlyStores (state self.old) (state self.new) }
-        ensures why { (Self.Target.state target).failures ≡ 0 → result ≡ None }
+        ensures why { TellsWhy (Self.Target.state target).failures result }
         ensures says { MaySay (state self.old).may_say (Some name.now) result }
         ensures failed { 0 < (Self.Target.state target).failures
             → IsTrue ((state self.new).has_failed name.now) }

@@ -10,7 +10,8 @@
 //! Answers: `status`, `out`, `err`, `printed` (which of the two were written to), and each file by
 //! its name.
 
-ghost use Rattle.std.specs.Prelude.{◌≡◌, true, false, None};
+ghost use Rattle.std.specs.Prelude.{true, false, None};
+ghost use Rattle.fq_files.specs.States.{TellsWhy};
 
 use anyhow::{Context, Result};
 use fq_app::program;
@@ -49,7 +50,7 @@ struct TroubledFiles<'a> {
 impl TroubledFiles<'_> {
     // Why a device failed that has failed so often.
     fn error_of(&self, failures: u64) -> Option<SystemError>
-        ensures { failures ≡ 0 → result ≡ None }
+        ensures { TellsWhy failures result }
     {
         if failures > 0 { Some(self.error) } else { None }
     }

@@ -1,6 +1,6 @@
 //! Readers and writers of the standard library, as devices.
 
-ghost use Rattle.std.specs.Prelude.{◌≡◌, ◌<◌, ◌≤◌, ◌+◌, None, length, IfOk, is_ok, if◌then◌else◌};
+ghost use Rattle.std.specs.Prelude.{◌≡◌, ◌<◌, ◌≤◌, ◌+◌, None, length, IfOk, IsSome, is_ok, if◌then◌else◌};
 ghost use Rattle.std.specs.Io.KnownBytes.{Keeps, ReadConsumes, WriteAppends};
 
 use crate::feed::{Feed, FeedFailed};
@@ -50,7 +50,8 @@ impl<R: Read> FromRead<R> {
 
     /// Why the last failed read call failed, if one failed, and what the first bytes looked like.
     pub fn seen(&self) -> Seen
-        ensures { self.now.failures ≡ 0 → result.error ≡ None }
+        ensures none { self.now.failures ≡ 0 → result.error ≡ None }
+        ensures some { 0 < self.now.failures → IsSome result.error }
     {
         let error = if self.failed_reads > 0 {
             Some(self.error)

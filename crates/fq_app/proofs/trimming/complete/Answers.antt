@@ -7,15 +7,14 @@ use Rattle.fq_run.specs.Outcome.TheVariants.{Input}
 use Rattle.fq_run.specs.Endings.{AreTold, ends_whole}
 use Rattle.fq_app_words.specs.Requests.{asking_of}
 use Rattle.fq_app_files.specs.Trimming.{opened_of, left_of, run_in}
-use Rattle.fq_files.specs.States.{Errors, FilesState, MaySay}
+use Rattle.fq_files.specs.States.{Errors, FilesState}
 use Rattle.fq_files.proofs.StateLemmas.{same_as, says_as, store_fail, then_store, told_as, told_before}
 use Rattle.fq_app_files.proofs.StoreLemmas.{all_hold}
 use Rattle.fq_app_files.proofs.EndingLemmas.{ends_so}
 use Rattle.fq_app_files.proofs.FailureLemmas.{as_it_is, fails_as_told, feed_sound, not_lane, outlets_flushed, outlets_sound}
 use Rattle.fq_app_files.proofs.CompletingLemmas.{IsHeld, first_pairs, report_of_run, sides_in, trims_files}
 use Rattle.fq_app_files.proofs.OpeningLemmas.{inputs_kept}
-use Rattle.fq_app_files.specs.Seeing.{InputsMaySay, OutputsMaySay}
-use Rattle.fq_app_files.specs.Faults.{settled}
+use Rattle.fq_app_files.specs.Seeing.{InputsMaySay, IsReportError, OutputsMaySay}
 use Rattle.fq_app_files.proofs.SaidLemmas.{is_said, its_error}
 use Rattle.fq_app.proofs.trimming.complete.Goals as goal
 
@@ -35,8 +34,8 @@ returns g c = record {
   no_gate = c.run-account.ensures.no_gate;
   report_says =
       let a = asking_of c.args.request.now in
-      let P : Errors → Type 0 =
-      λ may_say. MaySay may_say a.report c.store_report-reported.result.1 in
+      let reported = c.store_report-reported.result in
+      let P : Errors → Type 0 = λ may_say. IsReportError a may_say reported.0 reported.1 in
       says_as _ _ P c.inputs_done-inputs.ensures.kept
       (says_as _ _ P c.store-errors.ensures.kept c.store_report-reported.ensures.says);
   kept =
@@ -139,7 +138,9 @@ returns g c = record {
             its_error a start.may_say c.inputs_done-inputs.result c.store-errors.result
             c.run-account.result.unmatched (says_as _ _ inputs_say since done.says)
             (says_as _ _ outputs_say since (says_as _ _ outputs_say done.kept stored.says))
-            (settled account.outcome) _ c.seen_of.ensures;
+            choices run left _ c.seen_of.ensures opened.ready.log
+            (sides_in inputs before after left account) c.run-account.ensures.every done.why
+            stored.why;
         report_failed = reported.failed;
         sound = λ whole written.
             let every = c.run-account.ensures.every (not_lane account.outcome whole) in

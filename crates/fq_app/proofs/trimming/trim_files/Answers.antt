@@ -1,7 +1,8 @@
 use Rattle.std.proofs.lemmas.Result.{err_from_is_err_and}
-use Rattle.fq_files.specs.States.{Errors, MaySay}
+use Rattle.fq_files.specs.States.{Errors}
 use Rattle.fq_files.proofs.StateLemmas.{says_as}
 use Rattle.fq_app_words.specs.Requests.{asking_of}
+use Rattle.fq_app_files.specs.Seeing.{IsReportError}
 use Rattle.fq_app_files.proofs.OpeningLemmas.{refusable_right, wrong_refused}
 use Rattle.fq_app.proofs.trimming.trim_files.Goals as goal
 
@@ -41,8 +42,8 @@ returns-clause-rest g c =
     (c.complete.ensures.completed _ devices.sound devices.opened
     c.in_ok-settings.ensures.settings c.in_ok-settings.ensures.right).rest
 
--- the error that is told of the report is one that its device may say
+-- the error that is told of the report is one that its device may say, if that has failed
 pub returns-clause-report_says : goal.returns-clause-report_says
 returns-clause-report_says g c =
-    says_as _ _ (λ (may_say : Errors). MaySay may_say (asking_of c.args.request.now).report
-    c.complete.result.report_error) c.in_ok-devices.ensures.sound c.complete.ensures.report_says
+    says_as _ _ (λ (may_say : Errors). IsReportError (asking_of c.args.request.now) may_say
+    c.complete.result.reported c.complete.result.report_error) c.in_ok-devices.ensures.sound c.complete.ensures.report_says
