@@ -15,6 +15,7 @@ mod written;
 mod halt;
 mod occurred;
 mod reading_end;
+mod refused;
 pub mod shared;
 mod total;
 
