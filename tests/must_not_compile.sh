@@ -14,7 +14,8 @@
 # Of the witness: one that is made of nothing. It must be refused by exactly one error
 # (error[private-field]), and one that is made of the error of std by none. That error itself is
 # written as a value only in the files that are named below, where something else stands for it. So
-# a worker that ends at some block as if memory had been refused has nothing to end with.
+# a worker that ends at some block as if memory had been refused has nothing to end with. The faults
+# and errors that stand for it in a run are written as values only where they arise.
 #
 # It works in a directory of its own, outside the tree, and needs rt on the path.
 set -uo pipefail
@@ -207,15 +208,20 @@ pub fn no_zeros() -> Result<Vec<u8>, MemoryRefused> {
 RT
 
 # Where the program's crates write an error of std as a value: once in each of these files.
-error='(AllocError|OutOfMemory)'
-written=$(grep -rcE "\\($error\\)|= $error;|$error\\.into" --include='*.rt' crates/*/src |
+error='([a-z_]+::)*(AllocError|OutOfMemory)'
+value="(\\(|= |=> |\\| |\\{ |return )$error([^:A-Za-z_]|\$)|^ +$error\$"
+written=$(grep -rcE "$value" --include='*.rt' crates/*/src |
   grep -vE ':0$|^crates/fq_test_[a-z_]+/' | sort)
 wanted='crates/fq_app/src/answering.rt:1
 crates/fq_app/src/example.rt:1
-crates/fq_app_files/src/refusal.rt:1
 crates/fq_app_files/src/reporting.rt:1
 crates/fq_prog/src/main.rt:1
-crates/fq_run_core/src/occurred.rt:1'
+crates/fq_run_core/src/refused.rt:1'
 [ "$written" = "$wanted" ] || fail "errors of std are written as values in: $written"
+
+# Above fq_text its fault for refused memory stands in patterns alone.
+made=$(grep -rnE 'TextFault::OutOfMemory|NoSource \{|SpawnError \{' --include='*.rt' crates/*/src |
+  grep -vE '^crates/fq_t(ext|est_[a-z_]+)/|TextFault::OutOfMemory\)* (=>|\|)')
+[ -z "$made" ] || fail "a fault or an error that stands for refused memory is made in: $made"
 
 finish 'ok, 10 misuses refused and 3 uses accepted'

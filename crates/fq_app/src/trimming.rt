@@ -67,7 +67,8 @@ pub fn trim_files<R: Threads + Wait + Copy + Send + 'static, T: Files>(
         → KeepsUnnamed (asking_of request.now)
         (T.state files.old).bytes (T.state files.new).bytes }
 
-    // Refused memory and an unconfirmed lane have a witness, and the gate lets every block pass.
+    // Refused memory, a refused thread and an unconfirmed lane have a witness, and the gate lets
+    // every block pass.
     ensures witnessed { IfOk result (λ completed. IsWitnessed completed.account) }
     ensures no_gate { IfOk result (λ completed. completed.account.outcome ≢ Outcome.Gate) }
 

@@ -8,7 +8,7 @@ use Rattle.fq_pair.specs.declared.side.Side.TheVariants.{Forward, Reverse}
 use Rattle.fq_pair.specs.declared.counts.Counts.{Counts}
 use Rattle.fq_run_core.specs.Choices.{Choices}
 use Rattle.fq_run_core.specs.declared.outcome.Outcome.{Outcome}
-use Rattle.fq_run_core.specs.declared.outcome.Outcome.TheVariants.{Lane, Memory, Write, Read, Endless}
+use Rattle.fq_run_core.specs.declared.outcome.Outcome.TheVariants.{Spawn, Lane, Memory, Write, Read, Endless}
 use Rattle.fq_run_core.specs.Endings.{ends_whole, failures_in}
 use Rattle.fq_app_words.specs.Requests.{Asking, InputNames, input_name, output_name}
 use Rattle.fq_app_files.specs.Faults.{settled}
@@ -55,6 +55,7 @@ HasFailed a old new _ = Unit {0}
 pub record IsWitnessed (account : Account) : Type 0 where
   pub lane : account.outcome ≡ Lane → IsSome account.unended
   pub memory : account.outcome ≡ Memory → IsSome account.refused
+  pub spawn : account.outcome ≡ Spawn → IsSome account.refused
 
 -- a report that could not be written has a device that failed
 abbrev pub ReportFailed : Asking → FilesState → Type 0

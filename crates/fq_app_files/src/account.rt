@@ -16,6 +16,6 @@ pub struct Account {
     pub tally: Option<Tally>,
     /// Why a lane couldn't be confirmed, if that is the outcome.
     pub unended: Option<NotEnded>,
-    /// The witness that memory was refused, if that is the outcome.
+    /// The witness that memory was refused, or a thread, if that is the outcome.
     pub refused: Option<MemoryRefused>,
 }

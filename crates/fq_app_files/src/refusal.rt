@@ -51,7 +51,7 @@ pub(crate) fn source_refused(fault: FileFault, side: Side) -> Refusal
 {
     match fault {
         FileFault::Refused(cause) => Refusal::Source(side, cause),
-        FileFault::OutOfMemory => no_memory(),
+        FileFault::OutOfMemory(refused) => Refusal::Memory(refused),
     }
 }
 
@@ -63,7 +63,7 @@ pub(crate) fn target_refused(fault: FileFault, out: Out) -> Refusal
 {
     match fault {
         FileFault::Refused(cause) => Refusal::Target(out, cause),
-        FileFault::OutOfMemory => no_memory(),
+        FileFault::OutOfMemory(refused) => Refusal::Memory(refused),
     }
 }
 
@@ -74,13 +74,6 @@ pub(crate) fn report_refused(fault: FileFault) -> Refusal
 {
     match fault {
         FileFault::Refused(cause) => Refusal::Report(cause),
-        FileFault::OutOfMemory => no_memory(),
+        FileFault::OutOfMemory(refused) => Refusal::Memory(refused),
     }
-}
-
-// Memory was refused for a file. Its fault stands for the error of std.
-fn no_memory() -> Refusal
-    ensures { IsMemory result }
-{
-    Refusal::Memory(MemoryRefused::from(OutOfMemory))
 }

@@ -5,7 +5,7 @@ ghost use Rattle.fq_text.specs.Looks.{look_of};
 ghost use Rattle.fq_files.specs.Holding.{KeepsOthers};
 ghost use Rattle.fq_files.specs.States.{FilesState, KeepsFailed, MayRefuse, MayRefuseInput, MaySay, TellsWhy, OnlyOpens, OnlyFails, OnlyWrites, OnlyStores, StillHeld};
 
-use fq_text::{Feed, OutOfMemory, Outlet, Seen, SystemError};
+use fq_text::{Feed, MemoryRefused, OutOfMemory, Outlet, Seen, SystemError};
 use thiserror::Error;
 
 /// Why a file is refused.
@@ -27,17 +27,18 @@ pub enum FileFault {
     Refused(Cause),
     /// Memory was refused.
     #[error("out of memory")]
-    OutOfMemory,
+    OutOfMemory(MemoryRefused),
 }
 
 impl From<OutOfMemory> for FileFault {
     ghost use Rattle.std.specs.Prelude.{◌≡◌};
+    ghost use Rattle.fq_text.specs.declared.memory.MemoryRefused.{MemoryRefused};
     ghost use Rattle.fq_files.specs.declared.files.FileFault.TheVariants.{OutOfMemory};
 
-    ghost from_gives = { λ _ e. e ≡ OutOfMemory };
+    ghost from_gives = { λ _ e. (refused : MemoryRefused) × (e ≡ OutOfMemory refused) };
 
-    fn from(_e: OutOfMemory) -> FileFault {
-        FileFault::OutOfMemory
+    fn from(e: OutOfMemory) -> FileFault {
+        FileFault::OutOfMemory(MemoryRefused::from(e))
     }
 }
 

@@ -158,6 +158,7 @@ module _ {S : Type 0} (state : S → SourceState) (c : Choices) (s : SourceState
       lane = λ at. absurd (let r = rank_is none in let e = ap rank at in omega arith);
       no_other = λ there. absurd cc;
       memory = ends.memory;
+      spawn = λ at. absurd (let r = rank_is none in let e = ap rank at in omega arith);
       gate = gate_is none;
       forward = λ gone. absurd (forward_there gone);
       reverse = λ gone. absurd (reverse_there gone);
@@ -173,6 +174,7 @@ module _ {S : Type 0} (state : S → SourceState) (c : Choices) (s : SourceState
           lane = λ at. refl;
           no_other = λ u. lane;
           memory = ends.memory;
+          spawn = λ at. absurd (let e = sym lane ∙ at in cc);
           gate = λ at. absurd (let e = sym lane ∙ at in cc);
           forward = λ gone. absurd (forward_there gone);
           reverse = λ gone. absurd (reverse_there gone);

@@ -1,5 +1,5 @@
 -- A run whose threads could not all be started.
-use Rattle.std.proofs.Common.{◌≡◌, ◌↔◌, Option, Some, None, IfSome, IsSome, false, IsTrue, Result, ℕ, ◌-◌, ◌<◌, List, [], ◌∷◌, ◌++◌, length, take, refl, sym, ap, ◌∙◌, subst, arith, ◌≤◌, ◌^◌, vec_len, ◌&&◌, Bool}
+use Rattle.std.proofs.Common.{◌≡◌, ◌↔◌, Option, Some, None, IfSome, false, IsTrue, Result, ℕ, ◌-◌, ◌<◌, List, [], ◌∷◌, ◌++◌, length, take, refl, sym, ap, ◌∙◌, subst, arith, ◌≤◌, ◌^◌, vec_len, ◌&&◌, Bool}
 use Rattle.fq_lane.specs.History.{History}
 use Rattle.fq_lane.specs.declared.tx.NotEnded.{NotEnded}
 use Rattle.fq_text.specs.declared.memory.MemoryRefused.{MemoryRefused}
@@ -101,7 +101,8 @@ partial run is whole = let e : IsTrue false = subst IsTrue (ap ends_whole is) wh
 
 module _ (c : Choices) (run : Run) (e : run.outcome ≡ outcome.Spawn) (none : run.counts ≡ no_counts)
     (untallied : run.tally ≡ None) (same : IsUntouched run)
-    (both : (run.forward_left ≡ None) ↔ (run.reverse_left ≡ None)) (holds : Bool) where
+    (both : (run.forward_left ≡ None) ↔ (run.reverse_left ≡ None)) (holds : Bool)
+    (lacked : MemoryRefused) where
   nothing : (out : Out) → text_of out (texts_of c.steps []) ++ [] ≡ []
   nothing out = let q = no_text c.steps out in rw q refl
 
@@ -143,11 +144,12 @@ module _ (c : Choices) (run : Run) (e : run.outcome ≡ outcome.Spawn) (none : r
   }
 
   -- what is promised of a run on several threads holds if a thread was refused
-  pub unstarted : IsThreaded c holds run None None
+  pub unstarted : IsThreaded c holds run None (Some lacked)
   unstarted = record {
     lane = λ at. absurd (apart run e outcome.Lane (λ q. cc) at);
     no_other = λ some. absurd cc;
-    memory = λ at. absurd (apart run e outcome.Memory (λ q. cc) at);
+    memory = λ at. refl;
+    spawn = λ at. refl;
     gate = λ at. absurd (apart run e outcome.Gate (λ q. cc) at);
     forward = λ gone. e;
     reverse = λ gone. e;
@@ -159,8 +161,8 @@ module _ (c : Choices) (run : Run) (e : run.outcome ≡ outcome.Spawn) (none : r
 
 -- if memory was refused before the threads started, the outlets were only flushed
 pub refused : (form : Form) (c : Choices) (f r f' r' : FeedState) (before after : OutletStates)
-    (counted : Total) (failed : Option Out) (lacked : Option MemoryRefused) → IsSome lacked →
-    f' ≡ f → r' ≡ r → counted ≡ no_total false → FlushesAfter None before after failed →
+    (counted : Total) (failed : Option Out) (lacked : MemoryRefused) → f' ≡ f → r' ≡ r →
+    counted ≡ no_total false → FlushesAfter None before after failed →
     f.failures ≡ 0 → r.failures ≡ 0 → {holds : Bool} →
     IsThreaded c holds (record {
       form = form;
@@ -175,23 +177,23 @@ pub refused : (form : Form) (c : Choices) (f r f' r' : FeedState) (before after 
       counts =
           counted.counts;
       tally = counted.tally;
-    }) None lacked
-refused form c f r f' r' before after counted failed lacked some same also none flushed sound
-    sound' =
-    let p = runs_refused form c f r f' r' before counted same also none in
+    }) None (Some lacked)
+refused form c f r f' r' before after counted failed lacked same also none flushed sound sound' =
+    let p = runs_refused lacked form c f r f' r' before counted same also none in
     record {
       lane = λ at. absurd cc;
       no_other = λ there. absurd cc;
-      memory = λ at. some;
+      memory = λ at. refl;
+      spawn = λ at. absurd cc;
       gate = λ at. absurd cc;
       forward = λ gone. absurd cc;
       reverse = λ gone. absurd cc;
       together = (λ gone. absurd cc, λ gone. absurd cc);
       untouched = λ at. absurd cc;
       whole = λ ends told. absurd cc;
-      every = λ lane. run_every form c f r f' r' before before counted no_halt (Some reading.Memory)
-          None p after failed outcome.Memory flushed refl sound sound' counted
-          (none ∙ sym (ap (ended outcome.Memory) none));
+      every = λ lane. run_every form c f r f' r' before before counted no_halt
+          (Some (reading.Memory lacked)) None p after failed outcome.Memory flushed refl sound
+          sound' counted (none ∙ sym (ap (ended outcome.Memory) none));
     }
 
 -- the feeds of the source, if it was handed back

@@ -28,7 +28,7 @@ use Rattle.fq_run.specs.Confirming.{Confirmed}
 use Rattle.fq_run.specs.dealer.Dealt.{Closed}
 use Rattle.fq_run.specs.lanes.Items.{IsDealt}
 use Rattle.fq_run.specs.collector.Collecting.{counted_from, counted}
-use Rattle.fq_run.specs.collector.Stops.{witness, is_stop, has_come, stops_of}
+use Rattle.fq_run.specs.collector.Stops.{witness, is_stop, has_come, refused_if, stops_of}
 use Rattle.fq_run.specs.Threads.{tallies_from}
 use Rattle.fq_run.proofs.crew.WorkerLemmas.{Answered}
 
@@ -127,6 +127,11 @@ added_up false steps n bs ws have = none_added ws
 neither : (a b : Bool) → (a || b) ≡ false → (a ≡ false) × (b ≡ false)
 neither true b none = absurd cc
 neither false b none = (refl, none)
+
+-- without a witness nothing was refused
+unrefused : (b : Bool) → refused_if b ≡ None → b ≡ false
+unrefused true is = absurd cc
+unrefused false is = refl
 
 -- a worker whose replies have no stop did not stop
 unstopped : (steps : List Step) (bs : List Numbered) (rs : List Reply) (cause : Option Cause) →
@@ -240,4 +245,4 @@ tallies_add_up tallied steps holds w bs ns ms ts cs ws fs total ds halt some dea
     (λ j d lt.
     (let same : j ≡ 0 + j = omega arith in
     dealt.items j d (omega arith) ∙ ap (λ (i : ℕ). every i w bs) same))
-    (ap (λ (h : Halt). h.gate) stops) (ap (λ (h : Halt). h.memory) stops))
+    (ap (λ (h : Halt). h.gate) stops) (unrefused _ (ap (λ (h : Halt). h.memory) stops)))

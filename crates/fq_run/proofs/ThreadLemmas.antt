@@ -1,5 +1,5 @@
 -- What a run with threads has read and written, from what its dealer read and its collector wrote.
-use Rattle.std.proofs.Common.{◌≡◌, ℕ, ◌+◌, ◌<◌, ◌≤◌, ◌^◌, Option, Some, None, Result, List, [], ◌∷◌, ◌++◌, length, map, refl, sym, ap, ◌∙◌, subst, arith, append_assoc, length-append}
+use Rattle.std.proofs.Common.{◌≡◌, ℕ, ◌+◌, ◌<◌, ◌≤◌, ◌^◌, Option, Some, None, is_some, Result, List, [], ◌∷◌, ◌++◌, length, map, refl, sym, ap, ◌∙◌, subst, arith, append_assoc, length-append}
 use Rattle.std.specs.List.{AllZip}
 use Rattle.std.proofs.lemmas.List.{append-nil}
 use mathlib.Core.List.{IsPrefix}
@@ -215,7 +215,7 @@ module _ (c : Choices) (old new : SourceState) (mates : List Mates) (why : Optio
 halted : (why : Cause) (k : Collector) → IsHeard why k → k.halt ≡ no_halt → ⊥
 halted cause.Gate k heard sound = let e = sym heard ∙ ap (λ (h : Halt). h.gate) sound in cc
 halted (cause.Memory refused) k heard sound =
-    let e = sym heard ∙ ap (λ (h : Halt). h.memory) sound in cc
+    let e = sym heard ∙ ap (λ (h : Halt). is_some h.memory) sound in cc
 
 module _ (form : Form) (c : Choices) (f r : FeedState) (old new : SourceState)
     (to : List (History Numbered)) (closings : List (Result (History Numbered) NotEnded))

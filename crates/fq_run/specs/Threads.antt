@@ -116,15 +116,16 @@ run_from state s before after ending = record {
 }
 
 -- What a run on several threads guarantees. The outcome is `Lane` exactly if a lane could not be
--- confirmed. If it is `Memory`, there is a witness; if it is `Gate`, the gate may hold back a
--- block. Feeds are lost only if a thread was refused, and only both together. If a thread was
--- refused, nothing was read or written. If the run ended at the end of the input, or at a fault in
--- it, all pairs before that were trimmed. `EveryEnding` holds unless the outcome is `Lane`.
+-- confirmed. If it is `Memory` or `Spawn`, there is a witness; if it is `Gate`, the gate may hold
+-- back a block. Feeds are lost only if a thread was refused, and only both together. If a thread
+-- was refused, nothing was read or written. If the run ended at the end of the input, or at a fault
+-- in it, all pairs before that were trimmed. `EveryEnding` holds unless the outcome is `Lane`.
 pub record IsThreaded (c : Choices) (holds : Bool) (run : Run)
     (unended : Option NotEnded) (refused : Option MemoryRefused) : Type 0 where
   pub lane : run.outcome ≡ outcome.Lane → IsSome unended
   pub no_other : IsSome unended → run.outcome ≡ outcome.Lane
   pub memory : run.outcome ≡ outcome.Memory → IsSome refused
+  pub spawn : run.outcome ≡ outcome.Spawn → IsSome refused
   pub gate : run.outcome ≡ outcome.Gate → IsTrue holds
   pub forward : run.forward_left ≡ None → run.outcome ≡ outcome.Spawn
   pub reverse : run.reverse_left ≡ None → run.outcome ≡ outcome.Spawn

@@ -17,7 +17,7 @@ pub(crate) struct Conclusion<S> {
     pub(crate) source: Option<S>,
     /// Why a lane couldn't be confirmed, if one couldn't.
     pub(crate) unended: Option<NotEnded>,
-    /// The witness that memory was refused, if this is the outcome.
+    /// The witness of the refusal, if the outcome is that memory or a thread was refused.
     pub(crate) refused: Option<MemoryRefused>,
 }
 
@@ -45,13 +45,13 @@ impl<S> Conclusion<S> {
     }
 
     /// The conclusion of a run whose threads could not all be started.
-    pub(crate) fn unstarted(source: Option<S>) -> Conclusion<S>
+    pub(crate) fn unstarted(source: Option<S>, refused: MemoryRefused) -> Conclusion<S>
         ensures { result ≡ record {
           outcome = Outcome.Spawn;
           total = no_total false;
           source = source;
           unended = None;
-          refused = None;
+          refused = Some refused;
         } }
     {
         Conclusion {
@@ -59,7 +59,7 @@ impl<S> Conclusion<S> {
             total: Total::without_tally(),
             source,
             unended: None,
-            refused: None,
+            refused: Some(refused),
         }
     }
 }

@@ -11,7 +11,7 @@ ghost use Rattle.std.specs.Arc.{arc_value};
 use crate::conclusion::Conclusion;
 use crate::threads::run;
 use fq_pair::{Counts, MixedSource};
-use fq_run_core::shared::{Halt, Occurred, ReadingEnd, names_at, open_interleaved};
+use fq_run_core::shared::{names_at, open_interleaved};
 use fq_run_core::{MixedEnding, Outcome, Outlets, Settings};
 use fq_text::{Feed, Outlet};
 use fq_work::Gate;
@@ -43,6 +43,7 @@ pub fn run_threads_mixed<
     ensures lane { result.outcome ≡ Outcome.Lane → IsSome result.unended }
     ensures no_other { IsSome result.unended → result.outcome ≡ Outcome.Lane }
     ensures memory { result.outcome ≡ Outcome.Memory → IsSome result.refused }
+    ensures spawn { result.outcome ≡ Outcome.Spawn → IsSome result.refused }
     ensures gate { result.outcome ≡ Outcome.Gate → IsTrue (H.holds (arc_value gate)) }
     ensures unmatched { IsSome result.unmatched → is_unmatched result.outcome ≡ true }
     ensures feed { result.feed ≡ None → result.outcome ≡ Outcome.Spawn }
@@ -87,7 +88,7 @@ fn begin<
 {
     match open_interleaved(alloc, settings, feed) {
         Ok(source) => ending_of(alloc, run(alloc, rt, settings, gate, source, outlets)),
-        Err(feed) => {
+        Err((feed, refused)) => {
             // Refused memory comes before a failed flush in the order of `Outcome`.
             let _ = outlets.flush_after(None);
             MixedEnding {
@@ -96,7 +97,7 @@ fn begin<
                 tally: None,
                 feed: Some(feed),
                 unended: None,
-                refused: Occurred::new(Halt::NONE, Some(ReadingEnd::Memory), None).refused(),
+                refused: Some(refused),
                 unmatched: None,
             }
         }

@@ -98,18 +98,19 @@ fn start<
         total,
         replies,
     } = ready;
-    let Some(dealer) = start_dealer(alloc, rt, settings, dealer) else {
-        return Conclusion::unstarted(None);
+    let dealer = match start_dealer(alloc, rt, settings, dealer) {
+        Ok(dealer) => dealer,
+        Err(refused) => return Conclusion::unstarted(None, refused),
     };
     let hands = match start_workers(alloc, rt, settings, gate, ends, hands) {
         Ok(hands) => hands,
-        Err(started) => {
+        Err((started, refused)) => {
             // The start lane is closed without an item, so the dealer reads nothing, and closes its
             // lanes, which ends the workers that were started.
             let _ = starter.close();
             let source = dealer.join(rt).into_unread();
             let _ = join_workers(rt, started, worked);
-            return Conclusion::unstarted(source);
+            return Conclusion::unstarted(source, refused);
         }
     };
     let crew = Crew {

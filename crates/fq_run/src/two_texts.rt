@@ -11,7 +11,7 @@ ghost use Rattle.std.specs.Arc.{arc_value};
 use crate::conclusion::Conclusion;
 use crate::threads::run;
 use fq_pair::{Counts, PairSource};
-use fq_run_core::shared::{Halt, Occurred, ReadingEnd, names_at, open};
+use fq_run_core::shared::{names_at, open};
 use fq_run_core::{Ending, Outcome, Outlets, Settings};
 use fq_text::{Feed, Outlet};
 use fq_work::Gate;
@@ -70,6 +70,7 @@ pub fn run_threads<
     ensures lane { result.outcome ≡ Outcome.Lane → IsSome result.unended }
     ensures no_other { IsSome result.unended → result.outcome ≡ Outcome.Lane }
     ensures memory { result.outcome ≡ Outcome.Memory → IsSome result.refused }
+    ensures spawn { result.outcome ≡ Outcome.Spawn → IsSome result.refused }
     ensures gate { result.outcome ≡ Outcome.Gate → IsTrue (H.holds (arc_value gate)) }
     ensures unmatched { IsSome result.unmatched → is_unmatched result.outcome ≡ true }
     ensures forward { result.forward ≡ None → result.outcome ≡ Outcome.Spawn }
@@ -119,7 +120,7 @@ fn begin<
 {
     match open(alloc, settings, forward, reverse) {
         Ok(source) => ending_of(alloc, run(alloc, rt, settings, gate, source, outlets)),
-        Err((forward, reverse)) => {
+        Err((forward, reverse, refused)) => {
             // Refused memory comes before a failed flush in the order of `Outcome`.
             let _ = outlets.flush_after(None);
             Ending {
@@ -129,7 +130,7 @@ fn begin<
                 forward: Some(forward),
                 reverse: Some(reverse),
                 unended: None,
-                refused: Occurred::new(Halt::NONE, Some(ReadingEnd::Memory), None).refused(),
+                refused: Some(refused),
                 unmatched: None,
             }
         }

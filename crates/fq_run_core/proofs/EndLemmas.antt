@@ -29,9 +29,9 @@ use Rattle.fq_run_core.specs.Devices.{gave, OutletStates, AreFlushed, OutletsToo
 use Rattle.fq_run_core.specs.Fates.{Fate, Unbroken, FlushFailed, WriteFailed, failed_outlet, block_begun, part_begun, IsCutShort}
 use Rattle.fq_pair.specs.Walks.{SourceState, fed}
 use Rattle.fq_run_core.specs.PairsRead.{Reads, fresh_side, fresh_source, feed_in}
-use Rattle.fq_run_core.specs.Writing.{no_halt, IsCounted, Passes, FlushesAfter, is_flush, wants_memory}
+use Rattle.fq_run_core.specs.Writing.{no_halt, IsCounted, Passes, FlushesAfter, is_flush, refused_in}
 use Rattle.fq_run_core.specs.Totals.{tally_at}
-use Rattle.fq_run_core.proofs.TotalLemmas.{recounted, none_at, whole_at, kept_at, not_memory}
+use Rattle.fq_run_core.proofs.TotalLemmas.{recounted, none_at, whole_at, kept_at}
 use Rattle.fq_run_core.specs.Endings.{Run, AreTold, all_pairs, trimmed_outcome, IsTrimmed, ends_whole, feed_of, feed_left, gave_to, failures_in, IsCutOff, pairs_given, IsNext, IsAllThatCame, AreFirst, IsJustified, EveryEnding}
 use Rattle.fq_run_core.proofs.OutletLemmas.{all_took_then, all_took_same}
 use Rattle.fq_run_core.proofs.ReadingLemmas.{failed_by, gave_is, gave_length, fed_back, reads_first, reads_end, reads_fault, reads_forward, reads_reverse, reads_cut, reads_next}
@@ -305,7 +305,7 @@ module _ (form : Form) (c : Choices) (f r : FeedState) (new : SourceState)
       inl (sym whole
       ∙ sym (ap (λ (q : Pairs). q.mates)
       (reads_end form c f r new all_read (reads_at reading.End is) told.forward told.reverse)))
-  came (Some reading.Memory) is told flush whole out at =
+  came (Some (reading.Memory refused)) is told flush whole out at =
       absurd (let e = sym (ap lacks_memory is) ∙ (at_write halt why failed o v out at).2 in cc)
   came (Some (reading.Fault fault)) is told flush whole out at =
       came_by fault (kind fault) is told whole out at
@@ -348,10 +348,10 @@ module _ (form : Form) (c : Choices) (f r : FeedState) (new : SourceState)
       none_at _ c.tallied counted.tally c.steps p.whole (ap ends_whole is)
   tally_is (HasFault fault none going there inside is) =
       whole_at _ c.tallied counted.tally c.steps p.whole (ap ends_whole is)
-      (p.counts.tally going none (ap wants_memory there))
+      (p.counts.tally going none (ap refused_in there))
   tally_is (IsOver none going there is) =
       whole_at _ c.tallied counted.tally c.steps p.whole (ap ends_whole is)
-      (p.counts.tally going none (ap wants_memory there))
+      (p.counts.tally going none (ap refused_in there))
 
   -- what holds at every ending
   pub every : EveryEnding c run
@@ -373,7 +373,7 @@ module _ (form : Form) (c : Choices) (f r : FeedState) (new : SourceState)
   }
 
   -- if all pairs were read and no outlet failed
-  trimmed_all : AreTold run → failed ≡ None → halt ≡ no_halt → (why ≡ Some reading.Memory → ⊥) →
+  trimmed_all : AreTold run → failed ≡ None → halt ≡ no_halt → refused_in why ≡ None →
       (fault : Option InputFault) → all_pairs c run ≡ record { mates = all_read; fault = fault } →
       o ≡ trimmed_outcome fault → IsTrimmed c run
   trimmed_all told none going enough fault all is =
@@ -393,7 +393,7 @@ module _ (form : Form) (c : Choices) (f r : FeedState) (new : SourceState)
         counts = p.counts.counts ∙ ap (counts_of c.steps) same;
         tally = kept_at (ends_whole o) counted.tally (ap ends_whole is ∙ whole_trimmed fault)
             ∙ counted_same (tally_if c.tallied c.steps) counted.tally p.whole
-            (all_pairs c run).mates same (p.counts.tally going none (not_memory why enough));
+            (all_pairs c run).mates same (p.counts.tally going none enough);
         outcome = is ∙ ap trimmed_outcome (sym (ap (λ (q : Pairs). q.fault) all));
       }
 
@@ -408,12 +408,12 @@ module _ (form : Form) (c : Choices) (f r : FeedState) (new : SourceState)
   trimmed_by (HasNoEnd x none going there is) ends told =
       absurd (let e = sym (ap ends_whole is) ∙ ends in cc)
   trimmed_by (HasFault fault none going there inside is) ends told =
-      trimmed_all told none going (λ at. let e = sym there ∙ at in
-      cc) (Some fault) (reads_fault form c f r new all_read fault (reads_at
-      (reading.Fault fault) there) inside told.forward told.reverse) is
+      trimmed_all told none going (ap refused_in there) (Some fault)
+      (reads_fault form c f r new all_read fault (reads_at (reading.Fault fault) there) inside
+      told.forward told.reverse) is
   trimmed_by (IsOver none going there is) ends told =
-      trimmed_all told none going (λ at. let e = sym there ∙ at in
-      cc) None (reads_end form c f r new all_read (reads_at reading.End there) told.forward
+      trimmed_all told none going (ap refused_in there) None
+      (reads_end form c f r new all_read (reads_at reading.End there) told.forward
       told.reverse) is
 
   -- all pairs are trimmed if the outcome is `Finished`, or a fault in the input

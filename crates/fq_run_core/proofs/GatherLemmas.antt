@@ -1,11 +1,11 @@
 -- A block that is being gathered.
-use Rattle.std.proofs.Common.{◌≡◌, ℕ, ◌+◌, ◌<◌, ◌≤◌, Bool, true, false, Result, Ok, Err, OnOk, OnErr, Option, Some, None, List, [], ◌∷◌, ◌++◌, length, refl, sym, ap, subst, ◌∙◌, arith}
-use Rattle.std.specs.Result.{is_err}
+use Rattle.std.proofs.Common.{◌≡◌, ℕ, ◌+◌, ◌<◌, ◌≤◌, Bool, true, false, Option, Some, None, List, [], ◌∷◌, ◌++◌, length, refl, sym, ap, subst, ◌∙◌, arith}
 use Rattle.std.specs.Option.{is_some}
 use Rattle.std.proofs.lemmas.List.{length-append}
 use Rattle.fq_trim.specs.declared.step.Step.{Step}
 use Rattle.fq_pair.specs.declared.fault.InputFault.{InputFault}
 use Rattle.fq_text.specs.Grammar.{Read}
+use Rattle.fq_text.specs.declared.memory.MemoryRefused.{MemoryRefused}
 use Rattle.fq_pair.specs.Mates.{Mates, mates_in}
 use Rattle.fq_pair.specs.Outputs.{texts_of}
 use Rattle.fq_report_pairs.specs.declared.tally.Tally.{Tally}
@@ -18,18 +18,6 @@ use Rattle.fq_pair.specs.Walks.{SourceState, Walks, MeetsEnd, MeetsFault, GoesOn
 use Rattle.fq_run_core.specs.PairsRead.{Reads}
 use Rattle.fq_run_core.specs.Gathering.{Gathers}
 use Rattle.fq_run_core.proofs.WalkLemmas.{walks_none, walks_then}
-
--- what a call guarantees if memory was refused
-pub err_says : {T E : Type 0} (r : Result T E) (refused : Bool) (P : Type 0) → refused ≡ is_err r →
-    refused ≡ true → OnErr r P → P
-err_says (Ok x) refused P is yes_is p = absurd (let e = sym is ∙ yes_is in cc)
-err_says (Err x) refused P is yes_is p = p
-
--- what a call guarantees if memory was not refused
-pub ok_says : {T E : Type 0} (r : Result T E) (refused : Bool) (P : Type 0) → refused ≡ is_err r →
-    refused ≡ false → OnOk r P → P
-ok_says (Ok x) refused P is no_is p = p
-ok_says (Err x) refused P is no_is p = absurd (let e = sym is ∙ no_is in cc)
 
 -- this number of pairs was read and trimmed
 pub record Gathered (old now : SourceState) (steps : List Step) (tally tally_now : Option Tally)
@@ -138,17 +126,17 @@ module _ (steps : List Step) (tally : Option Tally) where
       gathers_stopped old now next t done n most (reading.Fault why) room g (now, g.walks, e)
 
   -- memory for one more pair was refused: that pair is lost, and the block is as it was
-  pub gathers_refused : (old now next : SourceState) (t u : Option Tally) (done then : Done)
-      (n most : ℕ) (m : Mates) → n < most → Gathered old now steps tally t done n →
-      Walks now next (m ∷ []) → then ≡ done → u ≡ t →
-      Gathers old next steps most tally u then (Some reading.Memory)
-  gathers_refused old now next t u done then n most m room g w same kept =
+  pub gathers_refused : (refused : MemoryRefused) (old now next : SourceState) (t u : Option Tally)
+      (done then : Done) (n most : ℕ) (m : Mates) → n < most →
+      Gathered old now steps tally t done n → Walks now next (m ∷ []) → then ≡ done → u ≡ t →
+      Gathers old next steps most tally u then (Some (reading.Memory refused))
+  gathers_refused refused old now next t u done then n most m room g w same kept =
       let P : Done → Type 0 =
-      λ d. Gathers old next steps most tally u d (Some reading.Memory) in
+      λ d. Gathers old next steps most tally u d (Some (reading.Memory refused)) in
       let Q : Option Tally → Type 0 =
-      λ x. Gathers old next steps most tally x done (Some reading.Memory) in
+      λ x. Gathers old next steps most tally x done (Some (reading.Memory refused)) in
       subst P (sym same) (subst Q (sym kept)
-      (gathers_stopped old now next t done n most reading.Memory room g (
+      (gathers_stopped old now next t done n most (reading.Memory refused) room g (
         m ∷ [],
         walks_then old now next g.block (m ∷ []) g.walks w,
       )))

@@ -2,6 +2,7 @@
 use Rattle.std.proofs.Common.{◌≡◌, false, Option, Some, None, [], ◌++◌, refl, sym, ap, subst, ◌∙◌}
 use Rattle.fq_pair.specs.declared.out.Out.{Out}
 use Rattle.fq_pair.specs.Outputs.{text_of, texts_of}
+use Rattle.fq_text.specs.declared.memory.MemoryRefused.{MemoryRefused}
 use Rattle.fq_run_core.specs.declared.halt.Halt.{Halt}
 use Rattle.fq_run_core.specs.declared.total.Total.{Total}
 use Rattle.fq_run_core.specs.declared.written.Written.{Written}
@@ -21,10 +22,10 @@ use Rattle.fq_run_core.proofs.TextLemmas.{no_text}
 use Rattle.fq_run_core.proofs.WalkLemmas.{walks_none}
 
 -- memory was refused before anything was read
-pub passes_refused : (c : Choices) (old : SourceState) (o : OutletStates) (counted : Total) →
-    old.last ≡ None → counted ≡ no_total false →
-    Passes c old old o o counted no_halt (Some reading.Memory) None
-passes_refused c old o counted goes none = record {
+pub passes_refused : (refused : MemoryRefused) (c : Choices) (old : SourceState) (o : OutletStates)
+    (counted : Total) → old.last ≡ None → counted ≡ no_total false →
+    Passes c old old o o counted no_halt (Some (reading.Memory refused)) None
+passes_refused refused c old o counted goes none = record {
   whole = [];
   fate = Unbroken;
   missed = [];
@@ -45,34 +46,36 @@ passes_refused c old o counted goes none = record {
     no_more out = let e = no_text c.steps out in rw e refl
 
 -- a run to which memory was refused before the first pair has read and written nothing
-pub runs_refused : (form : Form) (c : Choices) (f r f' r' : FeedState) (o : OutletStates)
-    (counted : Total) → f' ≡ f → r' ≡ r → counted ≡ no_total false →
-    Runs form c f r f' r' o o counted no_halt (Some reading.Memory) None
-runs_refused form c f r f' r' o counted same also none =
+pub runs_refused : (refused : MemoryRefused) (form : Form) (c : Choices) (f r f' r' : FeedState)
+    (o : OutletStates) (counted : Total) → f' ≡ f → r' ≡ r → counted ≡ no_total false →
+    Runs form c f r f' r' o o counted no_halt (Some (reading.Memory refused)) None
+runs_refused refused form c f r f' r' o counted same also none =
     record {
       new = fresh_source form c f r;
       passes =
-          passes_refused c (fresh_source form c f r) o counted refl none;
+          passes_refused refused c (fresh_source form c f r) o counted refl none;
       forward = same;
       reverse =
           also;
     }
 
--- `nothing_written` is the right result if the source and the outlets are as they were
-pub passes_unasked : (c : Choices) (old : SourceState) (o : OutletStates) (total : Total)
-    (w : Written) → old.last ≡ None → w ≡ nothing_written → total ≡ w.total →
-    Passes c old old o o total no_halt w.why w.failed
-passes_unasked c old o total w goes is same =
-    let P : Written → Type 0 = λ x. Passes c old old o o total no_halt x.why x.failed in
-    subst P (sym is) (passes_refused c old o total goes (same ∙ ap (λ (x : Written). x.total) is))
+-- memory was refused, and the source and the outlets are as they were
+pub passes_unasked : (refused : MemoryRefused) (c : Choices) (old : SourceState) (o : OutletStates)
+    (total : Total) (w : Written) → old.last ≡ None → w ≡ nothing_written None → total ≡ w.total →
+    Passes c old old o o total no_halt (Some (reading.Memory refused)) w.failed
+passes_unasked refused c old o total w goes is same =
+    let P : Written → Type 0 =
+    λ x. Passes c old old o o total no_halt (Some (reading.Memory refused)) x.failed in
+    subst P (sym is)
+    (passes_refused refused c old o total goes (same ∙ ap (λ (x : Written). x.total) is))
 
--- `nothing_written` is the right result of a run if its feeds and outlets are as they were
-pub runs_nothing : (form : Form) (c : Choices) (f r f' r' : FeedState) (o : OutletStates)
-    (w : Written) → w ≡ nothing_written → f' ≡ f → r' ≡ r →
-    Runs form c f r f' r' o o w.total no_halt w.why w.failed
-runs_nothing form c f r f' r' o w is same also =
+-- memory was refused to a run, and its feeds and outlets are as they were
+pub runs_nothing : (refused : MemoryRefused) (form : Form) (c : Choices) (f r f' r' : FeedState)
+    (o : OutletStates) (w : Written) → w ≡ nothing_written (Some (reading.Memory refused)) →
+    f' ≡ f → r' ≡ r → Runs form c f r f' r' o o w.total no_halt w.why w.failed
+runs_nothing refused form c f r f' r' o w is same also =
     let P : Written → Type 0 = λ x. Runs form c f r f' r' o o x.total no_halt x.why x.failed in
-    subst P (sym is) (runs_refused form c f r f' r' o (no_total false) same also refl)
+    subst P (sym is) (runs_refused refused form c f r f' r' o (no_total false) same also refl)
 
 -- what was read from a fresh source and written
 pub runs_passed : (form : Form) (c : Choices) (f r f' r' : FeedState) (old new : SourceState)

@@ -128,8 +128,8 @@ module _ (form : Form) (c : Choices) (f r : FeedState) where
   reads_first s ms None p tf tr = is_first s ms p tf tr
   reads_first s ms (Some reading.End) p tf tr = is_first p.0 ms p.1 tf tr
   reads_first s ms (Some (reading.Fault w)) p tf tr = is_first p.0 ms p.1 tf tr
-  reads_first s ms (Some reading.Memory) p tf tr = let q = is_first s (ms ++ p.0) p.1 tf tr in
-      (p.0 ++ q.0, q.1 ∙ append_assoc ms p.0 q.0)
+  reads_first s ms (Some (reading.Memory refused)) p tf tr =
+      let q = is_first s (ms ++ p.0) p.1 tf tr in (p.0 ++ q.0, q.1 ∙ append_assoc ms p.0 q.0)
 
   -- at the end of the inputs they are all pairs, and there is no fault
   pub reads_end : (s : SourceState) (ms : List Mates) →
@@ -175,7 +175,7 @@ module _ (form : Form) (c : Choices) (f r : FeedState) where
   reads_forward s ms (Some (reading.Fault x)) p = let v = p.1 in let e = p.2 in let m = p.0 in
       let same = v.same in draws_then _ m.forward _ _ v.forward
       (failed_as m m.forward s.forward Forward x same.form e.forward)
-  reads_forward s ms (Some reading.Memory) p = let w = p.1 in w.forward
+  reads_forward s ms (Some (reading.Memory refused)) p = let w = p.1 in w.forward
 
   -- the reverse feed gave bytes, and failed as often as the reason why reading stopped implies
   pub reads_reverse : (s : SourceState) (ms : List Mates) (why : Option ReadingEnd) →
@@ -187,7 +187,7 @@ module _ (form : Form) (c : Choices) (f r : FeedState) where
   reads_reverse s ms (Some (reading.Fault x)) p = let v = p.1 in let e = p.2 in let m = p.0 in
       let same = v.same in draws_then _ m.reverse _ _ v.reverse
       (failed_as m m.reverse s.reverse Reverse x same.form e.reverse)
-  reads_reverse s ms (Some reading.Memory) p = let w = p.1 in w.reverse
+  reads_reverse s ms (Some (reading.Memory refused)) p = let w = p.1 in w.reverse
 
   lacks_as : (s : SourceState) (ms : List Mates) (xs ys : List ℕ) →
       Walks (fresh_source form c f r) s ms →

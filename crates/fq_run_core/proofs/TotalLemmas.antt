@@ -12,11 +12,10 @@ use Rattle.fq_report_pairs.specs.declared.done.Done.{Done}
 use Rattle.fq_report_pairs.specs.Results.{tally_if, none_counted, tally_with}
 use Rattle.fq_run_core.specs.declared.halt.Halt.{Halt}
 use Rattle.fq_run_core.specs.declared.reading_end.ReadingEnd.{ReadingEnd}
-use Rattle.fq_run_core.specs.declared.reading_end.ReadingEnd.TheVariants as reading
 use Rattle.fq_run_core.specs.declared.total.Total.{Total}
 use Rattle.fq_run_core.specs.Choices.{Choices}
 use Rattle.fq_run_core.specs.Totals.{total_of, no_total}
-use Rattle.fq_run_core.specs.Writing.{IsCounted, wants_memory}
+use Rattle.fq_run_core.specs.Writing.{IsCounted}
 use Rattle.fq_run_core.proofs.TextLemmas.{counts_added}
 
 -- no pairs
@@ -91,11 +90,3 @@ whole_at true false t steps ms is same = same
 pub kept_at : (e : Bool) (t : Option Tally) → e ≡ true → cond e t None ≡ t
 kept_at true t is = refl
 kept_at false t is = absurd cc
-
--- a reading that memory did not end
-pub not_memory : (why : Option ReadingEnd) → (why ≡ Some reading.Memory → ⊥) →
-    wants_memory why ≡ false
-not_memory None other = refl
-not_memory (Some reading.Memory) other = absurd (other refl)
-not_memory (Some reading.End) other = refl
-not_memory (Some (reading.Fault fault)) other = refl

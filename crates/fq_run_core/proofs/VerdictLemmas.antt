@@ -1,6 +1,7 @@
 -- Which outcome a run has, and what it implies.
-use Rattle.std.proofs.Common.{◌≡◌, ◌<◌, ◌≤◌, Bool, true, false, ◌||◌, Option, Some, None, refl, sym, ap, ◌∙◌, arith}
+use Rattle.std.proofs.Common.{◌≡◌, ◌<◌, ◌≤◌, Bool, true, false, ◌||◌, Option, Some, None, is_some, refl, sym, ap, ◌∙◌, arith}
 use Rattle.fq_text.specs.declared.fault.TextFault.TheVariants as text
+use Rattle.fq_text.specs.declared.memory.MemoryRefused.{MemoryRefused}
 use Rattle.fq_pair.specs.declared.out.Out.{Out}
 use Rattle.fq_pair.specs.declared.side.Side.{Side}
 use Rattle.fq_pair.specs.declared.side.Side.TheVariants.{Forward, Reverse}
@@ -15,7 +16,7 @@ use Rattle.fq_run_core.specs.declared.reading_end.ReadingEnd.{ReadingEnd}
 use Rattle.fq_run_core.specs.declared.reading_end.ReadingEnd.TheVariants as reading
 use Rattle.fq_run_core.specs.Outcomes.{rank, end_of, is_memory, outcome_of}
 use Rattle.fq_pair.specs.Walks.{faulty}
-use Rattle.fq_run_core.specs.Writing.{no_halt, wants_memory, fault_in, occurred}
+use Rattle.fq_run_core.specs.Writing.{no_halt, refused_in, fault_in, occurred}
 use Rattle.fq_run_core.proofs.ReadingLemmas.{failed_by}
 
 -- what a fault is
@@ -34,7 +35,7 @@ kind _ = OfText refl
 
 -- memory was refused to a pair, or to the reading of one
 abbrev pub lacks_memory : Option ReadingEnd → Bool
-lacks_memory why = wants_memory why || is_memory (end_of (fault_in why))
+lacks_memory why = is_some (refused_in why) || is_memory (end_of (fault_in why))
 
 -- why a run whose lanes are all confirmed has its outcome
 pub data Verdict (halt : Halt) (why : Option ReadingEnd) (failed : Option Out) (o : Outcome) : Type
@@ -76,18 +77,19 @@ sound_verdict None None over = absurd (over refl refl)
 sound_verdict None (Some out) over = FailedAt out refl refl refl refl
 sound_verdict (Some reading.End) None over = IsOver refl refl refl refl
 sound_verdict (Some reading.End) (Some out) over = FailedAt out refl refl refl refl
-sound_verdict (Some reading.Memory) failed over = WantsMemory refl
+sound_verdict (Some (reading.Memory refused)) failed over = WantsMemory refl
 sound_verdict (Some (reading.Fault fault)) failed over = fault_verdict fault failed
 
-abbrev halt_of : Bool → Bool → Halt
+abbrev halt_of : Bool → Option MemoryRefused → Halt
 halt_of gate memory = record { gate = gate; memory = memory }
 
-halt_verdict : (gate memory : Bool) (why : Option ReadingEnd) (failed : Option Out) →
-    (why ≡ None → failed ≡ None → ⊥) → Verdict (halt_of gate memory) why failed
+halt_verdict : (gate : Bool) (memory : Option MemoryRefused) (why : Option ReadingEnd)
+    (failed : Option Out) → (why ≡ None → failed ≡ None → ⊥) →
+    Verdict (halt_of gate memory) why failed
     (outcome_at (halt_of gate memory) why failed)
 halt_verdict true memory why failed over = IsRefused refl refl
-halt_verdict false true why failed over = WantsMemory refl
-halt_verdict false false why failed over = sound_verdict why failed over
+halt_verdict false (Some refused) why failed over = WantsMemory refl
+halt_verdict false None why failed over = sound_verdict why failed over
 
 -- a run in which reading stopped, or an outlet failed, has its outcome for one of these reasons
 pub verdict : (halt : Halt) (why : Option ReadingEnd) (failed : Option Out) →
@@ -139,7 +141,7 @@ pub failed_once : (form : Form) (side : Side) (why : Option ReadingEnd) →
     failed_by form side why ≤ 1
 failed_once form side None = omega arith
 failed_once form side (Some reading.End) = omega arith
-failed_once form side (Some reading.Memory) = omega arith
+failed_once form side (Some (reading.Memory refused)) = omega arith
 failed_once form side (Some (reading.Fault fault)) = failed_few form side fault
 
 -- What an outcome implies.

@@ -136,7 +136,7 @@ pub reads_then : (a b c : SourceState) (ms ns : List Mates) (why : Option Readin
 reads_then a b c ms ns None p q = walks_then a b c ms ns p q
 reads_then a b c ms ns (Some reading.End) p q = (q.0, walks_then a b q.0 ms ns p q.1, q.2)
 reads_then a b c ms ns (Some (reading.Fault fault)) p q = (q.0, walks_then a b q.0 ms ns p q.1, q.2)
-reads_then a b c ms ns (Some reading.Memory) p q =
+reads_then a b c ms ns (Some (reading.Memory refused)) p q =
     let P : List Mates → Type 0 = λ xs. Walks a c xs in
     (q.0, subst P (sym (append_assoc ms ns q.0)) (walks_then a b c ms (ns ++ q.0) p q.1))
 

@@ -1,5 +1,5 @@
 -- Which outcome a run has.
-use Rattle.std.specs.Prelude.{ℕ, Bool, true, false, ◌||◌, Option, Some, None, if◌then◌else◌}
+use Rattle.std.specs.Prelude.{ℕ, Bool, true, false, ◌||◌, Option, Some, None, is_some, if◌then◌else◌}
 use Rattle.fq_text.specs.declared.fault.TextFault.{TextFault}
 use Rattle.fq_text.specs.declared.fault.TextFault.TheVariants as text
 use Rattle.fq_pair.specs.declared.out.Out.{Out}
@@ -55,5 +55,5 @@ or_write None other = other
 abbrev pub outcome_of : Occurred → Outcome
 outcome_of o =
     if o.gate then Gate
-    else (if o.memory || is_memory (end_of o.fault) then Memory
+    else (if is_some o.memory || is_memory (end_of o.fault) then Memory
     else or_write o.failed (end_of o.fault))

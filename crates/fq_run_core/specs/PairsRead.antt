@@ -14,7 +14,7 @@ Reads old new ms None = Walks old new ms
 Reads old new ms (Some reading.End) = (mid : SourceState) × Walks old mid ms × MeetsEnd mid new
 Reads old new ms (Some (reading.Fault why)) =
     (mid : SourceState) × Walks old mid ms × MeetsFault mid new why
-Reads old new ms (Some reading.Memory) = (lost : List Mates) × Walks old new (ms ++ lost)
+Reads old new ms (Some (reading.Memory refused)) = (lost : List Mates) × Walks old new (ms ++ lost)
 
 -- a source that nothing was read from, over feeds in these states
 abbrev pub fresh_side : Choices → FeedState → SideState

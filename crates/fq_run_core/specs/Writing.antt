@@ -1,5 +1,7 @@
 -- How the blocks of a run are read and written.
-use Rattle.std.specs.Prelude.{◌≡◌, ◌≢◌, Bool, true, false, ◌||◌, Option, Some, None, List, [], ◌++◌}
+use Rattle.std.specs.Prelude.{◌≡◌, ◌≢◌, Bool, true, false, Option, Some, None, List, [], ◌++◌}
+use Rattle.std.specs.Option.{option_or}
+use Rattle.fq_text.specs.declared.memory.MemoryRefused.{MemoryRefused}
 use Rattle.fq_pair.specs.declared.out.Out.{Out}
 use Rattle.fq_pair.specs.declared.fault.InputFault.{InputFault}
 use Rattle.fq_pair.specs.Mates.{Mates}
@@ -25,21 +27,21 @@ abbrev pub is_flush : Fate → Bool
 is_flush (FlushFailed out) = true
 is_flush _ = false
 
--- reading stopped because memory was refused
-abbrev pub wants_memory : Option ReadingEnd → Bool
-wants_memory (Some reading.Memory) = true
-wants_memory _ = false
+-- the witness of a reading that stopped because memory was refused
+abbrev pub refused_in : Option ReadingEnd → Option MemoryRefused
+refused_in (Some (reading.Memory refused)) = Some refused
+refused_in _ = None
 
 -- no worker stopped early
 abbrev pub no_halt : Halt
-no_halt = record { gate = false; memory = false }
+no_halt = record { gate = false; memory = None }
 
 -- The counts of a total are those of these pairs. If no worker stopped, no write failed and memory
 -- was not refused, so is its tally, if one is asked for.
 pub record IsCounted (c : Choices) (whole : List Mates) (halt : Halt) (why : Option ReadingEnd)
     (broken : Option Out) (total : Total) : Type 0 where
   pub counts : total.counts ≡ counts_of c.steps whole
-  pub tally : halt ≡ no_halt → broken ≡ None → wants_memory why ≡ false →
+  pub tally : halt ≡ no_halt → broken ≡ None → refused_in why ≡ None →
       total.tally ≡ tally_if c.tallied c.steps whole
 
 -- Pairs were read until reading stopped, and written until a write failed or a worker stopped; the
@@ -60,9 +62,9 @@ pub record Passes (c : Choices) (old new : SourceState) (before after : OutletSt
   pub unflushed : is_flush fate ≡ false
   pub missed_none : halt ≡ no_halt → broken ≡ None → missed ≡ []
 
--- what a run on one thread wrote if memory was refused before the first pair
-abbrev pub nothing_written : Written
-nothing_written = record { total = no_total false; why = Some reading.Memory; failed = None }
+-- nothing was read or written, for this reason if there is one
+abbrev pub nothing_written : Option ReadingEnd → Written
+nothing_written why = record { total = no_total false; why = why; failed = None }
 
 -- `Passes` for a run on one thread, in which no worker can stop
 abbrev pub HasWritten :
@@ -93,7 +95,7 @@ fault_in _ = None
 abbrev pub occurred : Halt → Option ReadingEnd → Option Out → Occurred
 occurred halt why failed = record {
   gate = halt.gate;
-  memory = halt.memory || wants_memory why;
+  memory = option_or halt.memory (refused_in why);
   failed = failed;
   fault = fault_in why;
 }

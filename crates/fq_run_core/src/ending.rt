@@ -26,7 +26,8 @@ pub struct Ending<F, G> {
     pub reverse: Option<G>,
     /// Why a lane couldn't be confirmed: `Some` exactly when the outcome is [`Outcome::Lane`].
     pub unended: Option<NotEnded>,
-    /// The witness that memory was refused: `Some` whenever the outcome is [`Outcome::Memory`].
+    /// The witness that memory was refused, or a thread: `Some` whenever the outcome is
+    /// [`Outcome::Memory`] or [`Outcome::Spawn`].
     pub refused: Option<MemoryRefused>,
     /// The names of the mates at which the run ended: `Some` only if the outcome is
     /// [`Outcome::Input`] with [`InputFault::NamesDiffer`]. `None` also if memory for them was
@@ -48,7 +49,8 @@ pub struct MixedEnding<F> {
     pub feed: Option<F>,
     /// Why a lane couldn't be confirmed: `Some` exactly when the outcome is [`Outcome::Lane`].
     pub unended: Option<NotEnded>,
-    /// The witness that memory was refused: `Some` whenever the outcome is [`Outcome::Memory`].
+    /// The witness that memory was refused, or a thread: `Some` whenever the outcome is
+    /// [`Outcome::Memory`] or [`Outcome::Spawn`].
     pub refused: Option<MemoryRefused>,
     /// The names of the mates at which the run ended: `Some` only if the outcome is
     /// [`Outcome::Input`] with [`InputFault::NamesDiffer`]. `None` also if memory for them was

@@ -8,6 +8,7 @@ ghost use Rattle.fq_run_core.specs.Gathering.{Gathers};
 use crate::reading_end::ReadingEnd;
 use fq_pair::PairReader;
 use fq_report_pairs::{Done, Tally};
+use fq_text::MemoryRefused;
 use fq_trim::Steps;
 
 /// Reads and trims the next pairs, up to `most`, adds their texts to `done`, and counts them if
@@ -33,8 +34,8 @@ pub(crate) fn gather<S: PairReader>(
             Ok(true) => {
                 let pair = source.pair_in_hand();
                 let names = source.names_in_hand();
-                if done.add(pair, names, steps, tally).is_err() {
-                    return Some(ReadingEnd::Memory);
+                if let Err(e) = done.add(pair, names, steps, tally) {
+                    return Some(ReadingEnd::Memory(MemoryRefused::from(e)));
                 }
             }
             Ok(false) => return Some(ReadingEnd::End),

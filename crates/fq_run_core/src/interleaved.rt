@@ -13,6 +13,7 @@ use crate::halt::Halt;
 use crate::occurred::Occurred;
 use crate::opening::open_interleaved;
 use crate::outlets::Outlets;
+use crate::reading_end::ReadingEnd;
 use crate::settings::Settings;
 use crate::writing::write_blocks;
 use crate::written::{Pass, Written};
@@ -89,8 +90,8 @@ fn pass<F: Feed, O: Outlet>(
             unmatched: source.unmatched_names(alloc).unwrap_or(None),
             feeds: source.into_feed(),
         },
-        Err(feed) => Pass {
-            written: Written::nothing(),
+        Err((feed, refused)) => Pass {
+            written: Written::nothing(Some(ReadingEnd::Memory(refused))),
             unmatched: None,
             feeds: feed,
         },

@@ -26,6 +26,7 @@ mod written;
 mod halt;
 mod occurred;
 mod reading_end;
+mod refused;
 pub mod shared;
 mod total;
 

@@ -6,16 +6,17 @@ ghost use Rattle.fq_run_core.specs.Outcomes.{end_of};
 use crate::halt::Halt;
 use crate::outcome::Outcome;
 use crate::reading_end::ReadingEnd;
+use crate::refused::refused_by;
 use fq_pair::{InputFault, Out};
-use fq_text::{MemoryRefused, OutOfMemory, TextFault};
+use fq_text::{MemoryRefused, TextFault};
 
 /// What occurred in a run.
 #[derive(Clone, Copy, Debug, PartialEq, Eq)]
 pub struct Occurred {
     /// A gate didn't let a block pass.
     pub gate: bool,
-    /// Memory was refused.
-    pub memory: bool,
+    /// The witness that memory was refused, unless that is the fault.
+    pub memory: Option<MemoryRefused>,
     /// The outlet whose write or flush failed.
     pub failed: Option<Out>,
     /// The fault that ended the reading.
@@ -33,7 +34,10 @@ impl Occurred {
     {
         Occurred {
             gate: halt.gate,
-            memory: halt.memory || matches!(why, Some(ReadingEnd::Memory)),
+            memory: halt.memory.or(match why {
+                Some(ReadingEnd::Memory(refused)) => Some(refused),
+                _ => None,
+            }),
             failed,
             fault: match why {
                 Some(ReadingEnd::Fault(fault)) => Some(fault),
@@ -50,7 +54,7 @@ impl Occurred {
             return Outcome::Gate;
         }
         let ended = end_outcome(self.fault);
-        if self.memory || matches!(ended, Outcome::Memory) {
+        if self.memory.is_some() || matches!(ended, Outcome::Memory) {
             return Outcome::Memory;
         }
         match self.failed {
@@ -59,15 +63,11 @@ impl Occurred {
         }
     }
 
-    /// Returns the witness that memory was refused, if this is the outcome.
+    /// Returns the witness that memory was refused, if it was.
     pub fn refused(self) -> Option<MemoryRefused>
         ensures { outcome_of self ≡ Outcome.Memory → IsSome result }
     {
-        match self.outcome() {
-            // What occurred stands for the error of std.
-            Outcome::Memory => Some(MemoryRefused::from(OutOfMemory)),
-            _ => None,
-        }
+        self.memory.or(refused_by(self.fault))
     }
 }
 

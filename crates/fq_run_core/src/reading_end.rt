@@ -1,6 +1,7 @@
 //! Why reading stopped.
 
 use fq_pair::InputFault;
+use fq_text::MemoryRefused;
 
 /// Why no further pair is read.
 #[derive(Clone, Copy, Debug, PartialEq, Eq)]
@@ -10,5 +11,5 @@ pub enum ReadingEnd {
     /// The inputs have a fault.
     Fault(InputFault),
     /// Memory was refused: for a pair, which is lost with all later ones, or before the first pair.
-    Memory,
+    Memory(MemoryRefused),
 }

@@ -13,6 +13,7 @@ use crate::halt::Halt;
 use crate::occurred::Occurred;
 use crate::opening::open;
 use crate::outlets::Outlets;
+use crate::reading_end::ReadingEnd;
 use crate::settings::Settings;
 use crate::writing::write_blocks;
 use crate::written::{Pass, Written};
@@ -107,10 +108,10 @@ fn pass<F: Feed, G: Feed, O: Outlet>(
             unmatched: source.unmatched_names(alloc).unwrap_or(None),
             feeds: source.into_feeds(),
         },
-        Err(feeds) => Pass {
-            written: Written::nothing(),
+        Err((forward, reverse, refused)) => Pass {
+            written: Written::nothing(Some(ReadingEnd::Memory(refused))),
             unmatched: None,
-            feeds,
+            feeds: (forward, reverse),
         },
     }
 }

@@ -1,6 +1,6 @@
 //! Reads and writes the blocks of a run on one thread.
 
-ghost use Rattle.std.specs.Prelude.{◌≡◌, ◌≤◌, OnOk, OnErr};
+ghost use Rattle.std.specs.Prelude.{◌≡◌, ◌≤◌, None, OnOk, OnErr};
 ghost use Rattle.fq_text.specs.Reading.{text_limit};
 ghost use Rattle.fq_pair.specs.Walks.{GoesOn};
 ghost use Rattle.fq_run_core.specs.Devices.{outlet_states, AreHealthy};
@@ -18,7 +18,7 @@ use crate::total::Total;
 use crate::written::Written;
 use fq_pair::{Out, PairReader};
 use fq_report_pairs::Done;
-use fq_text::Outlet;
+use fq_text::{MemoryRefused, Outlet};
 use fq_trim::Steps;
 use std::alloc::Global;
 
@@ -37,12 +37,13 @@ pub(crate) fn write_blocks<S: PairReader, O: Outlet>(
     ensures { HasWritten settings.now (S.state source.old) (S.state source.new)
         (outlet_states O.state outlets.old) (outlet_states O.state outlets.new) result }
 {
-    let mut written = Written::nothing();
+    let mut written = Written::nothing(None);
     write_counted(alloc, settings, source, outlets, &mut written);
     written
 }
 
-// Does the work of `write_blocks` on a borrowed result, which says so far that nothing was read.
+// Does the work of `write_blocks` on a borrowed result, which says so far that nothing was read or
+// written.
 fn write_counted<S: PairReader, O: Outlet>(
     alloc: Global,
     settings: &Settings,
@@ -54,7 +55,7 @@ fn write_counted<S: PairReader, O: Outlet>(
     requires fresh { (S.state source.old).forward.given ≡ 0 }
     requires few { (S.state source.old).most_bytes ≤ text_limit }
     requires outlets { AreHealthy (outlet_states O.state outlets.old) }
-    requires nothing { written.old ≡ nothing_written }
+    requires nothing { written.old ≡ nothing_written None }
     ensures { HasWritten settings.now (S.state source.old) (S.state source.new)
         (outlet_states O.state outlets.old) (outlet_states O.state outlets.new) written.new }
 {
@@ -75,13 +76,14 @@ fn write_with<S: PairReader, O: Outlet>(
     requires fresh { (S.state source.old).forward.given ≡ 0 }
     requires few { (S.state source.old).most_bytes ≤ text_limit }
     requires outlets { AreHealthy (outlet_states O.state outlets.old) }
-    requires nothing { written.old ≡ nothing_written }
+    requires nothing { written.old ≡ nothing_written None }
     ensures { HasWritten settings.now (S.state source.old) (S.state source.new)
         (outlet_states O.state outlets.old) (outlet_states O.state outlets.new) written.new }
 {
-    let Ok(()) = written.total.ask(alloc, settings.tallied()) else {
+    if let Err(e) = written.total.ask(alloc, settings.tallied()) {
+        written.why = Some(ReadingEnd::Memory(MemoryRefused::from(e)));
         return;
-    };
+    }
     let (why, failed) = write_each(settings, source, outlets, &mut written.total, done);
     written.why = why;
     written.failed = failed;

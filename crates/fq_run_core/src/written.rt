@@ -28,13 +28,13 @@ impl Written {
     ghost use Rattle.std.specs.Prelude.{◌≡◌};
     ghost use Rattle.fq_run_core.specs.Writing.{nothing_written};
 
-    /// Nothing was read or written: memory was refused before the first pair.
-    pub(crate) fn nothing() -> Written
-        ensures { result ≡ nothing_written }
+    /// Nothing was read or written, for this reason if there is one.
+    pub(crate) fn nothing(why: Option<ReadingEnd>) -> Written
+        ensures { result ≡ nothing_written why }
     {
         Written {
             total: Total::without_tally(),
-            why: Some(ReadingEnd::Memory),
+            why,
             failed: None,
         }
     }

@@ -17,7 +17,7 @@ use anyhow::{Context, Result};
 use fq_app::program;
 use fq_files::{Cause, FileFault, Files, MemoryFiles};
 use fq_test_worked::{Answers, Given};
-use fq_text::{Feed, Look, Outlet, ScriptFeed, ScriptOutlet, Seen, SystemError};
+use fq_text::{Feed, Look, OutOfMemory, Outlet, ScriptFeed, ScriptOutlet, Seen, SystemError};
 use std::alloc::Global;
 use std::sync::Wait;
 use std::thread::Threads;
@@ -135,7 +135,7 @@ fn trouble_of<'a>(given: &'a Given<'_>, error: SystemError) -> Result<(&'a str, 
         "refused" => Trouble::Refused(FileFault::Refused(Cause::System(error))),
         "twice" => Trouble::Refused(FileFault::Refused(Cause::Input)),
         "taken" => Trouble::Refused(FileFault::Refused(Cause::Output)),
-        "memory" => Trouble::Refused(FileFault::OutOfMemory),
+        "memory" => Trouble::Refused(FileFault::from(OutOfMemory)),
         "input" => Trouble::Input,
         _ => Trouble::Call(what.parse::<u64>().context("no such trouble")?),
     };

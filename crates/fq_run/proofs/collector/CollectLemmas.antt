@@ -1,5 +1,5 @@
 -- How a collector changes when it takes a reply.
-use Rattle.std.proofs.Common.{◌≡◌, ℕ, suc, ◌<◌, ◌%◌, Some, None, List, [], ◌∷◌, ◌++◌, length, map, refl, sym, ap, ◌∙◌, arith, subst, append_assoc, Bool}
+use Rattle.std.proofs.Common.{◌≡◌, ℕ, suc, ◌<◌, ◌%◌, Some, None, is_some, List, [], ◌∷◌, ◌++◌, length, map, refl, sym, ap, ◌∙◌, arith, subst, append_assoc, Bool}
 use Rattle.std.proofs.lemmas.Nat.{mod_below}
 use Rattle.std.proofs.lemmas.List.{append-nil, length-map, map-append}
 use Rattle.fq_lane.specs.History.{History}
@@ -80,18 +80,18 @@ written_gathers w (WriteFailed failed) before now ds k pos over none h = absurd 
 
 is_heard : (why : Cause) (k : Collector) (halt : Halt) → k.halt ≡ with_stop why halt → IsHeard why k
 is_heard cause.Gate k halt e = ap (λ (h : Halt). h.gate) e
-is_heard (cause.Memory refused) k halt e = ap (λ (h : Halt). h.memory) e
+is_heard (cause.Memory refused) k halt e = ap (λ (h : Halt). is_some h.memory) e
 
 still_heard : (why : Cause) (r : Taken Reply) (k l : Collector) → l.halt ≡ heard_at r k.halt →
     IsHeard why k → IsHeard why l
 still_heard cause.Gate (Item (Stop cause.Gate)) k l e h = ap (λ (h : Halt). h.gate) e
 still_heard cause.Gate (Item (Stop (cause.Memory other))) k l e h = ap (λ (h : Halt). h.gate) e ∙ h
 still_heard (cause.Memory refused) (Item (Stop cause.Gate)) k l e h =
-    ap (λ (h : Halt). h.memory) e ∙ h
+    ap (λ (h : Halt). is_some h.memory) e ∙ h
 still_heard (cause.Memory refused) (Item (Stop (cause.Memory other))) k l e h =
-    ap (λ (h : Halt). h.memory) e
+    ap (λ (h : Halt). is_some h.memory) e
 still_heard cause.Gate _ k l e h = ap (λ (h : Halt). h.gate) e ∙ h
-still_heard (cause.Memory refused) _ k l e h = ap (λ (h : Halt). h.memory) e ∙ h
+still_heard (cause.Memory refused) _ k l e h = ap (λ (h : Halt). is_some h.memory) e ∙ h
 
 -- a take that notes its stop, if it got one, keeps noted exactly the stops that came
 pub hears_take : (r : Taken Reply) (old new : List (History Reply)) (before after : Halt) (j : ℕ) →

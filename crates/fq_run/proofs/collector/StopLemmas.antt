@@ -1,5 +1,5 @@
 -- How the stops that came change when a lane changes.
-use Rattle.std.proofs.Common.{◌≡◌, ℕ, zero, suc, ◌<◌, Bool, false, ◌||◌, List, [], ◌∷◌, ◌++◌, length, get_or, refl, sym, ap, ◌∙◌, arith}
+use Rattle.std.proofs.Common.{◌≡◌, ℕ, zero, suc, ◌<◌, Bool, false, ◌||◌, None, List, [], ◌∷◌, ◌++◌, length, get_or, refl, sym, ap, ◌∙◌, arith}
 use Rattle.std.proofs.Math.Bool.{or_assoc, or_comm, or-false, or-true}
 use Rattle.std.proofs.Math.ListN.{set}
 use Rattle.std.proofs.lemmas.List.Folds.{list_any-append}
@@ -12,7 +12,7 @@ use Rattle.fq_work.specs.declared.reply.Cause.TheVariants.{Gate, Memory}
 use Rattle.fq_work.specs.declared.reply.Reply.{Reply}
 use Rattle.fq_work.specs.declared.reply.Reply.TheVariants.{Done as done, Stop}
 use Rattle.fq_run.specs.lanes.Items.{IsDealt}
-use Rattle.fq_run.specs.collector.Stops.{witness, with_stop, is_stop, has_come, stops_of}
+use Rattle.fq_run.specs.collector.Stops.{witness, with_stop, is_stop, has_come, refused_if, stops_of}
 use Rattle.fq_run_core.specs.declared.halt.Halt.{Halt}
 use Rattle.fq_run.proofs.lanes.LaneLemmas.{TakesAt}
 
@@ -49,10 +49,10 @@ come_same why (k ∷ ls) (suc j) l e = ap (λ b. list_any (is_stop why) k.items 
     (come_same why ls j l e)
 
 same_halt : (a b c d : Bool) → a ≡ c → b ≡ d →
-    (let x : Halt = record { gate = a; memory = b } in let y : Halt =
-    record { gate = c; memory = d } in x ≡ y)
-same_halt a b c d p q = ap (λ g. let x : Halt = record { gate = g; memory = b } in x) p
-    ∙ ap (λ m. let x : Halt = record { gate = c; memory = m } in x) q
+    (let x : Halt = record { gate = a; memory = refused_if b } in let y : Halt =
+    record { gate = c; memory = refused_if d } in x ≡ y)
+same_halt a b c d p q = ap (λ g. let x : Halt = record { gate = g; memory = refused_if b } in x) p
+    ∙ ap (λ m. let x : Halt = record { gate = c; memory = refused_if m } in x) q
 
 -- what has come, with a reply that was taken
 come_taken : (x : Reply) (old new : List (History Reply)) (j : ℕ) → j < length old →
@@ -96,7 +96,7 @@ none_come why (l ∷ ls) h =
 
 -- no stop came through lanes that have carried nothing
 pub no_stops : (ls : List (History Reply)) → IsDealt (length ls) [] ls →
-    stops_of ls ≡ record { gate = false; memory = false }
+    stops_of ls ≡ record { gate = false; memory = None }
 no_stops ls h =
     same_halt _ _ _ _ (none_come Gate ls (λ j d lt. h.items j d lt))
     (none_come (Memory witness) ls (λ j d lt. h.items j d lt))

@@ -4,6 +4,7 @@ use Rattle.std.proofs.Math.ListN.{set}
 use Rattle.std.proofs.Math.Nat.{zero-mod}
 use Rattle.std.proofs.lemmas.List.{append-nil, map-append, set-get_or}
 use Rattle.fq_text.specs.declared.encoding.Encoding.{Encoding}
+use Rattle.fq_text.specs.declared.memory.MemoryRefused.{MemoryRefused}
 use Rattle.fq_lane.specs.History.{History}
 use Rattle.fq_block.specs.Blocks.{Numbered}
 use Rattle.fq_pair.specs.Mates.{Mates}
@@ -172,10 +173,10 @@ module _ (c : Choices) (old : SourceState) (to : List (History Numbered)) where
           number_is = omega (arith, length-append blocks (block ∷ []));
         }
 
-    lost_last : why ≡ Some reading.Memory → next.given ≡ old.given + length
-        (d.mates ++ block.pairs) + 1
-    lost_last refused = let mates = d.mates in let w = d.walks in let given = w.given in let more =
-        f.lost refused in omega (arith, length-append mates block.pairs)
+    lost_last : (refused : MemoryRefused) → why ≡ Some (reading.Memory refused) →
+        next.given ≡ old.given + length (d.mates ++ block.pairs) + 1
+    lost_last refused is = let mates = d.mates in let w = d.walks in let given = w.given in
+        let more = f.lost refused is in omega (arith, length-append mates block.pairs)
 
     cut_last : (blocks : List Numbered) (mates : List Mates) → join (pairs_of blocks) ≡ mates →
         AreEven c.block_pairs (pairs_of blocks) → AreNumbered c.encoding 0 blocks →
@@ -210,7 +211,8 @@ module _ (c : Choices) (old : SourceState) (to : List (History Numbered)) where
         let unsent : set lanes turn after ≡ lanes = ap (set lanes turn) (sends.none none ∙ read)
         ∙ set-get_or lanes turn other in
         let Q : List Mates → Type 0 = λ ms. length ms ≤ 2 ^ 60 in
-        let R : List Mates → Type 0 = λ ms. why ≡ Some reading.Memory →
+        let R : List Mates → Type 0 = λ ms. (refused : MemoryRefused) →
+        why ≡ Some (reading.Memory refused) →
         next.given ≡ old.given + length ms + 1 in
         record {
           mates = mates;
@@ -241,7 +243,7 @@ module _ (c : Choices) (old : SourceState) (to : List (History Numbered)) where
     mates = [];
     blocks = [];
     reads = walks_none old goes.last;
-    lost = λ refused. absurd cc;
+    lost = λ refused is. absurd cc;
     few = omega arith;
     cut = record { cut = record { joined = refl; even = tt }; numbered = tt };
     dealt = fresh_lanes w fresh;

@@ -1,6 +1,7 @@
 -- A block that is being filled.
 use Rattle.std.proofs.Common.{◌≡◌, ℕ, ◌+◌, ◌<◌, ◌≤◌, Option, Some, None, [], ◌∷◌, ◌++◌, length, refl, sym, ap, subst, ◌∙◌, arith}
 use Rattle.std.proofs.lemmas.List.{length-append}
+use Rattle.fq_text.specs.declared.memory.MemoryRefused.{MemoryRefused}
 use Rattle.fq_block.specs.Blocks.{Numbered}
 use Rattle.fq_pair.specs.declared.fault.InputFault.{InputFault}
 use Rattle.fq_pair.specs.Mates.{Mates}
@@ -80,7 +81,7 @@ module _ (old now : SourceState) (empty block : Numbered) (n most : ℕ)
     few = omega arith;
     full = λ going. f.len ∙ full;
     reads = f.walks;
-    lost = λ refused. absurd cc;
+    lost = λ refused is. absurd cc;
     within = filled_within old now empty block n f;
     goes = λ going. f.goes;
   }
@@ -88,7 +89,8 @@ module _ (old now : SourceState) (empty block : Numbered) (n most : ℕ)
   -- reading stopped after the block
   fills_stopped : (next : SourceState) (stop : ReadingEnd) → n < most →
       Reads old next block.pairs (Some stop) →
-      (stop ≡ reading.Memory → next.given ≡ old.given + length block.pairs + 1) →
+      ((refused : MemoryRefused) → stop ≡ reading.Memory refused →
+      next.given ≡ old.given + length block.pairs + 1) →
       Fills old next most empty block (Some stop)
   fills_stopped next stop room reads lost = let len = f.len in record {
     number = f.number;
@@ -96,7 +98,7 @@ module _ (old now : SourceState) (empty block : Numbered) (n most : ℕ)
     few = omega arith;
     full = λ going. absurd cc;
     reads = reads;
-    lost = λ refused. lost cc;
+    lost = λ refused is. lost refused cc;
     within = filled_within old now empty block n f;
     goes = λ going. absurd cc;
   }
@@ -105,23 +107,25 @@ module _ (old now : SourceState) (empty block : Numbered) (n most : ℕ)
   pub fills_end : (next : SourceState) → n < most → MeetsEnd now next →
       Fills old next most empty block (Some reading.End)
   fills_end next room e = fills_stopped next reading.End room (now, f.walks, e)
-      (λ refused. absurd cc)
+      (λ refused is. absurd cc)
 
   -- a fault was found before the block was full
   pub fills_fault : (next : SourceState) (why : InputFault) → n < most → MeetsFault now next why →
       Fills old next most empty block (Some (reading.Fault why))
   fills_fault next why room e = fills_stopped next (reading.Fault why) room (now, f.walks, e)
-      (λ refused. absurd cc)
+      (λ refused is. absurd cc)
 
   -- memory for one more pair was refused: that pair is lost, and the block is as it was
-  pub fills_refused : (next : SourceState) (then : Numbered) (m : Mates) → n < most →
-      Walks now next (m ∷ []) → then ≡ block → Fills old next most empty then (Some reading.Memory)
-  fills_refused next then m room w same =
+  pub fills_refused : (refused : MemoryRefused) (next : SourceState) (then : Numbered) (m : Mates) →
+      n < most → Walks now next (m ∷ []) → then ≡ block →
+      Fills old next most empty then (Some (reading.Memory refused))
+  fills_refused refused next then m room w same =
       let walks = walks_then old now next block.pairs (m ∷ []) f.walks w in
       let given = walks.given in
-      let P : Numbered → Type 0 = λ b. Fills old next most empty b (Some reading.Memory) in
-      subst P (sym same) (fills_stopped next reading.Memory room (m ∷ [], walks) (λ refused. omega
-      (arith, length-append block.pairs (m ∷ []))))
+      let P : Numbered → Type 0 =
+      λ b. Fills old next most empty b (Some (reading.Memory refused)) in
+      subst P (sym same) (fills_stopped next (reading.Memory refused) room (m ∷ [], walks)
+      (λ again is. omega (arith, length-append block.pairs (m ∷ []))))
 
 -- equal bounds may be exchanged
 pub fills_as : (old new : SourceState) (most most' : ℕ) (empty block : Numbered)

@@ -1,5 +1,5 @@
 -- What a collector does: it takes replies in turn, and writes their texts.
-use Rattle.std.specs.Prelude.{◌≡◌, ℕ, ◌<◌, ◌%◌, Bool, true, Option, Some, None, List, [], ◌∷◌, ◌++◌, map, length}
+use Rattle.std.specs.Prelude.{◌≡◌, ℕ, ◌<◌, ◌%◌, Bool, true, Option, Some, None, is_some, List, [], ◌∷◌, ◌++◌, map, length}
 use Rattle.fq_pair.specs.declared.out.Out.{Out}
 use Rattle.fq_pair.specs.Outputs.{text_of}
 use Rattle.fq_report_pairs.specs.declared.done.Done.{Done}
@@ -42,7 +42,7 @@ TookAll before now ds = OutletsTook before now (λ out. written_text out ds) Non
 -- the cause for which a worker stopped is noted
 abbrev pub IsHeard : Cause → Collector → Type 0
 IsHeard cause.Gate k = k.halt.gate ≡ true
-IsHeard (cause.Memory refused) k = k.halt.memory ≡ true
+IsHeard (cause.Memory refused) k = is_some k.halt.memory ≡ true
 
 -- after these replies the next in turn was a Stop
 pub record HasStopped (w : ℕ) (before now : OutletStates) (ds : List Done)

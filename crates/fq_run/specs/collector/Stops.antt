@@ -1,5 +1,5 @@
 -- Which stops came, and how a collector notes them.
-use Rattle.std.specs.Prelude.{◌≡◌, ℕ, Bool, true, false, List}
+use Rattle.std.specs.Prelude.{◌≡◌, ℕ, Bool, true, false, Option, Some, None, List}
 use Rattle.std.specs.List.{list_any}
 use Rattle.fq_lane.specs.History.{History}
 use Rattle.fq_text.specs.declared.memory.MemoryRefused.{MemoryRefused}
@@ -20,7 +20,7 @@ witness = record { made_of_an_error = tt }
 -- one more worker stopped
 abbrev pub with_stop : Cause → Halt → Halt
 with_stop Gate halt = record { gate = true; memory = halt.memory }
-with_stop (Memory refused) halt = record { gate = halt.gate; memory = true }
+with_stop (Memory refused) halt = record { gate = halt.gate; memory = Some refused }
 
 -- a Stop for this cause
 abbrev pub is_stop : Cause → Reply → Bool
@@ -32,8 +32,14 @@ is_stop why reply = false
 abbrev pub has_come : Cause → List (History Reply) → Bool
 has_come why ls = list_any (λ (l : History Reply). list_any (is_stop why) l.items) ls
 
+-- a witness, if there is one
+abbrev pub refused_if : Bool → Option MemoryRefused
+refused_if true = Some witness
+refused_if false = None
+
 abbrev pub stops_of : List (History Reply) → Halt
-stops_of ls = record { gate = has_come Gate ls; memory = has_come (Memory witness) ls }
+stops_of ls =
+    record { gate = has_come Gate ls; memory = refused_if (has_come (Memory witness) ls) }
 
 -- exactly the stops that came are noted
 abbrev pub HearsAll : Collector → Type 0

@@ -2,6 +2,7 @@
 use Rattle.std.specs.Prelude.{◌≡◌, ℕ, suc, ◌+◌, ◌<◌, ◌≤◌, Option, Some}
 use Rattle.std.specs.Prelude.{List, [], ◌∷◌, map, length}
 use Rattle.fq_text.specs.Reading.{text_limit}
+use Rattle.fq_text.specs.declared.memory.MemoryRefused.{MemoryRefused}
 use Rattle.fq_text.specs.declared.encoding.Encoding.{Encoding}
 use Rattle.fq_lane.specs.History.{History, with_item}
 use Rattle.fq_block.specs.Blocks.{Numbered}
@@ -43,7 +44,8 @@ pub record DealsOut (c : Choices) (old new : SourceState) (to sent : List (Histo
   pub mates : List Mates
   pub blocks : List Numbered
   pub reads : Reads old new mates why
-  pub lost : why ≡ Some reading.Memory → new.given ≡ old.given + length mates + 1
+  pub lost : (refused : MemoryRefused) → why ≡ Some (reading.Memory refused) →
+      new.given ≡ old.given + length mates + 1
   pub few : length mates ≤ text_limit
   pub cut : AreBlocks c mates blocks
   pub dealt : IsDealt (length to) blocks sent

@@ -1,5 +1,6 @@
 -- How a block is filled with pairs.
 use Rattle.std.specs.Prelude.{◌≡◌, ℕ, ◌+◌, ◌≤◌, Option, Some, None, length}
+use Rattle.fq_text.specs.declared.memory.MemoryRefused.{MemoryRefused}
 use Rattle.fq_block.specs.Blocks.{Numbered}
 use Rattle.fq_pair.specs.Walks.{SourceState, GoesOn}
 use Rattle.fq_run_core.specs.PairsRead.{Reads}
@@ -15,6 +16,7 @@ pub record Fills (old new : SourceState) (most : ℕ) (empty filled : Numbered)
   pub few : length filled.pairs ≤ most
   pub full : why ≡ None → length filled.pairs ≡ most
   pub reads : Reads old new filled.pairs why
-  pub lost : why ≡ Some reading.Memory → new.given ≡ old.given + length filled.pairs + 1
+  pub lost : (refused : MemoryRefused) → why ≡ Some (reading.Memory refused) →
+      new.given ≡ old.given + length filled.pairs + 1
   pub within : old.forward.given + length filled.pairs ≤ old.most_bytes
   pub goes : why ≡ None → GoesOn new

@@ -12,8 +12,8 @@ pub(crate) fn add_stop(halt: Halt, cause: Cause) -> Halt
 {
     match cause {
         Cause::Gate => Halt { gate: true, ..halt },
-        Cause::Memory(_) => Halt {
-            memory: true,
+        Cause::Memory(refused) => Halt {
+            memory: Some(refused),
             ..halt
         },
     }

@@ -1,12 +1,13 @@
 //! Starts the workers, and waits for them.
 
-ghost use Rattle.std.specs.Prelude.{◌≡◌, ◌≤◌, [], IfSome, IfOk, IfErr, vec_len, vec_capacity};
+ghost use Rattle.std.specs.Prelude.{◌≡◌, ◌≤◌, [], IfOk, IfErr, vec_len, vec_capacity};
 ghost use Rattle.std.specs.Arc.{arc_value};
 ghost use Rattle.std.specs.List.{AllZip};
 ghost use Rattle.fq_run.specs.crew.Workers.{Seated, Joined};
 
 use crate::crew::job::Job;
 use fq_run_core::Settings;
+use fq_text::{MemoryRefused, OutOfMemory};
 use fq_work::{Gate, WorkEnds, Worked, work};
 use std::alloc::Global;
 use std::snapshot::Snapshot;
@@ -15,7 +16,7 @@ use std::thread;
 use std::thread::{PromisedHandle, Threads};
 
 /// Starts a worker for each seat, and returns their handles. If one was refused, returns the
-/// handles of those that were started before it.
+/// handles of those that were started before it, and the witness of that.
 pub(crate) fn start_workers<R: Threads + Wait + Copy + Send + 'static, H: Gate + 'static>(
     alloc: Global,
     rt: &R,
@@ -23,36 +24,38 @@ pub(crate) fn start_workers<R: Threads + Wait + Copy + Send + 'static, H: Gate +
     gate: &Arc<H>,
     seats: Vec<WorkEnds>,
     hands: Vec<PromisedHandle<Worked, Job>>,
-) -> Result<Vec<PromisedHandle<Worked, Job>>, Vec<PromisedHandle<Worked, Job>>>
+) -> Result<Vec<PromisedHandle<Worked, Job>>, (Vec<PromisedHandle<Worked, Job>>, MemoryRefused)>
     requires { (hands.items ≡ []) × (vec_len seats ≤ vec_capacity hands) }
     ensures all { IfOk result (λ hands.
         AllZip (Seated settings.now.steps (H.holds (arc_value gate.now)))
         seats.items hands.items) }
     ensures few { (IfOk result (λ hands. vec_len hands ≤ vec_len seats))
-        × (IfErr result (λ started. vec_len started ≤ vec_len seats)) }
+        × (IfErr result (λ started. vec_len started.0 ≤ vec_len seats)) }
 {
     let mut hands = hands;
     for ends in seats {
-        let Ok(gate) = Arc::try_clone(gate) else {
-            return Err(hands);
+        let gate = match Arc::try_clone(gate) {
+            Ok(gate) => gate,
+            Err(e) => return Err((hands, MemoryRefused::from(e))),
         };
-        let Some(hand) = start_worker(alloc, rt, settings, gate, ends) else {
-            return Err(hands);
+        let hand = match start_worker(alloc, rt, settings, gate, ends) {
+            Ok(hand) => hand,
+            Err(refused) => return Err((hands, refused)),
         };
         hands.push_reserved(hand);
     }
     Ok(hands)
 }
 
-// Starts one worker. Returns `None` if its thread was refused.
+// Starts one worker. If its thread was refused, returns the witness of that.
 fn start_worker<R: Threads + Wait + Copy + Send + 'static, H: Gate + 'static>(
     alloc: Global,
     rt: &R,
     settings: &Settings,
     gate: Arc<H>,
     ends: WorkEnds,
-) -> Option<PromisedHandle<Worked, Job>>
-    ensures { IfSome result (Seated settings.now.steps (H.holds (arc_value gate)) ends) }
+) -> Result<PromisedHandle<Worked, Job>, MemoryRefused>
+    ensures { IfOk result (Seated settings.now.steps (H.holds (arc_value gate)) ends) }
 {
     let job = Job {
         steps: *settings.steps(),
@@ -65,10 +68,13 @@ fn start_worker<R: Threads + Wait + Copy + Send + 'static, H: Gate + 'static>(
     let own = *rt;
     let steps = *settings.steps();
     let gate_turns = settings.gate_turns();
-    thread::spawn_with(rt, job, move || {
+    let spawned = thread::spawn_with(rt, job, move || {
         work(alloc, &own, ends, steps, gate, gate_turns)
-    })
-    .ok()
+    });
+    match spawned {
+        Ok(hand) => Ok(hand),
+        Err(e) => Err(MemoryRefused::from(OutOfMemory::from(e))),
+    }
 }
 
 /// Waits for all workers.

@@ -1,6 +1,6 @@
 //! Starts a dealer.
 
-ghost use Rattle.std.specs.Prelude.{◌≡◌, [], IfSome};
+ghost use Rattle.std.specs.Prelude.{◌≡◌, [], IfOk};
 ghost use Rattle.fq_run.specs.dealer.Dealt.{CanDeal};
 
 use crate::dealer::dealt::Dealt;
@@ -9,6 +9,7 @@ use crate::dealer::{Dealer, deal};
 use fq_lane::Rx;
 use fq_pair::PairReader;
 use fq_run_core::Settings;
+use fq_text::{MemoryRefused, OutOfMemory};
 use std::alloc::Global;
 use std::snapshot::Snapshot;
 use std::sync::Wait;
@@ -33,7 +34,8 @@ impl<S: PairReader> Promise<Dealt<S>> for Dealing<S> {
         dealing.start.value dealt.start dealing.to.value.items dealt.closings.items dealt.why };
 }
 
-/// Starts the dealer. Returns `None` if its thread was refused; the source is then lost.
+/// Starts the dealer. If its thread was refused, returns the witness of that; the source is then
+/// lost.
 pub(crate) fn start_dealer<
     R: Threads + Wait + Copy + Send + 'static,
     S: PairReader + Drop + Send + 'static,
@@ -42,13 +44,13 @@ pub(crate) fn start_dealer<
     rt: &R,
     settings: &Settings,
     dealer: Dealer<S>,
-) -> Option<PromisedHandle<Dealt<S>, Dealing<S>>>
+) -> Result<PromisedHandle<Dealt<S>, Dealing<S>>, MemoryRefused>
     requires start { dealer.start.items ≡ [] }
     requires deals { CanDeal settings.now (S.state dealer.source) dealer }
-    ensures settings { IfSome result (λ h. h.promise.settings ≡ settings.now) }
-    ensures start { IfSome result (λ h. h.promise.start.value ≡ dealer.start) }
-    ensures to { IfSome result (λ h. h.promise.to.value ≡ dealer.to) }
-    ensures source { IfSome result (λ h. h.promise.source.value ≡ dealer.source) }
+    ensures settings { IfOk result (λ h. h.promise.settings ≡ settings.now) }
+    ensures start { IfOk result (λ h. h.promise.start.value ≡ dealer.start) }
+    ensures to { IfOk result (λ h. h.promise.to.value ≡ dealer.to) }
+    ensures source { IfOk result (λ h. h.promise.source.value ≡ dealer.source) }
 {
     let dealing = Dealing {
         settings: *settings,
@@ -58,5 +60,8 @@ pub(crate) fn start_dealer<
     };
     let own = *rt;
     let settings = *settings;
-    thread::spawn_with(rt, dealing, move || deal(alloc, &own, &settings, dealer)).ok()
+    match thread::spawn_with(rt, dealing, move || deal(alloc, &own, &settings, dealer)) {
+        Ok(hand) => Ok(hand),
+        Err(e) => Err(MemoryRefused::from(OutOfMemory::from(e))),
+    }
 }

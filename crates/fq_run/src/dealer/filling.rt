@@ -7,6 +7,7 @@ ghost use Rattle.fq_run.specs.dealer.Filling.{Fills};
 use fq_block::Block;
 use fq_pair::PairReader;
 use fq_run_core::shared::ReadingEnd;
+use fq_text::MemoryRefused;
 
 /// Fills a block with the next pairs, up to `most`.
 ///
@@ -30,8 +31,8 @@ pub(crate) fn fill<S: PairReader>(
             Ok(true) => {
                 let pair = source.pair_in_hand();
                 let names = source.names_in_hand();
-                if block.push_named(&pair, names).is_err() {
-                    return Some(ReadingEnd::Memory);
+                if let Err(e) = block.push_named(&pair, names) {
+                    return Some(ReadingEnd::Memory(MemoryRefused::from(e)));
                 }
             }
             Ok(false) => return Some(ReadingEnd::End),

@@ -3,7 +3,6 @@
 use Rattle.std.proofs.Common.{refl, ap}
 use Rattle.fq_pair.specs.Forms.{InterleavedText}
 use Rattle.fq_pair.specs.Walks.{interleaved_state}
-use Rattle.fq_run_core.specs.Outcomes.{outcome_of}
 use Rattle.fq_run.proofs.StartLemmas.{closed, refused}
 use Rattle.fq_run.proofs.interleaved.begin.Goals as goal
 
@@ -24,6 +23,5 @@ returns-in-Err-clause-threaded g c =
     let f = g.F.Feed in
     let fs = f.state in
     let back = c.in-Err.ensures.err in
-    refused _ c.args.settings.now _ _ _ _ _ _ _ _ _
-    (c.refused.ensures (ap outcome_of c.new.ensures)) (ap fs back) (ap fs back) refl
+    refused _ c.args.settings.now _ _ _ _ _ _ _ _ _ (ap fs back) (ap fs back) refl
     c.flush_after.ensures c.requires.feed c.requires.feed

@@ -16,5 +16,5 @@ returns-in-Err g c =
     λ e. IsThreaded c.args.settings.now (g.H.Gate.holds (arc_value c.args.gate.now))
     (run_from s.state (s.state c.args.source) (states
     c.args.outlets.now) (states c.flush_after.new.self) e) e.unended e.refused in
-    subst P (sym c.refused.ensures) (refused _ _ _ _ _ _ _ _ _ _ _ refl refl refl refl
+    subst P (sym c.refused.ensures) (refused _ _ _ _ _ _ _ _ _ _ _ refl refl refl
     c.flush_after.ensures c.requires.fresh.forward c.requires.fresh.reverse)

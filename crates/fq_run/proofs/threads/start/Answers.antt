@@ -15,8 +15,8 @@ start_dealer-requires-clause-deals g c κs within =
     (omega (arith, c.args.dealer.to.ok.0)) c.requires.fresh c.requires.few
 
 -- if the dealer's thread is refused, the feeds are lost, and nothing is written
-pub returns-in_default : goal.returns-in_default
-returns-in_default g c =
+pub returns-in-Err : goal.returns-in-Err
+returns-in-Err g c =
     let s = g.S.PairReader in let o = g.O.Outlet in
     let states = outlet_states o.state in
     let P : Conclusion g.row.S.Denot → Type 0 =
@@ -24,11 +24,11 @@ returns-in_default g c =
     (run_from s.state (s.state c.args.dealer.source) (states
     c.args.outlets.now) (states c.args.outlets.now) e) e.unended e.refused in
     subst P (sym c.unstarted.ensures) (unstarted _ _ refl refl refl
-    (record { outlets = refl; forward = tt; reverse = tt }) (λ gone. refl, λ gone. refl) _)
+    (record { outlets = refl; forward = tt; reverse = tt }) (λ gone. refl, λ gone. refl) _ _)
 
 -- if a worker is refused, nothing is written, and feeds that are handed back are as they were
-pub returns-in-Err : goal.returns-in-Err
-returns-in-Err g c =
+pub returns-in-Err-start_workers : goal.returns-in-Err-start_workers
+returns-in-Err-start_workers g c =
     let s = g.S.PairReader in let o = g.O.Outlet in
     let states = outlet_states o.state in
     let P : Conclusion g.row.S.Denot → Type 0 =
@@ -38,9 +38,9 @@ returns-in-Err g c =
     let left = c.into_unread-source.result in
     let back = unread s.state (s.state c.args.dealer.source) left
     (idle s.state _ _ _ _ _ _ _ _ _ c.join.result.source left
-    (ap s.state c.in-Some.ensures.source) refl c.join.ensures c.into_unread-source.ensures) in
-    subst P (sym c.unstarted-in-Err.ensures)
+    (ap s.state c.in-Ok.ensures.source) refl c.join.ensures c.into_unread-source.ensures) in
+    subst P (sym c.unstarted-in-Err-start_workers.ensures)
     (unstarted _ _ refl refl refl
     (record { outlets = refl; forward = back.0; reverse = back.1 })
     (of_one (λ x. feed_in (s.state x).forward) (λ x. feed_in
-    (s.state x).reverse) left) _)
+    (s.state x).reverse) left) _ _)

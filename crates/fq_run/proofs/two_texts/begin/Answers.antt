@@ -3,7 +3,6 @@
 use Rattle.std.proofs.Common.{refl, ap}
 use Rattle.fq_pair.specs.Forms.{TwoTexts}
 use Rattle.fq_pair.specs.Walks.{source_state}
-use Rattle.fq_run_core.specs.Outcomes.{outcome_of}
 use Rattle.fq_run.proofs.StartLemmas.{closed, refused}
 use Rattle.fq_run.proofs.two_texts.begin.Goals as goal
 
@@ -24,6 +23,5 @@ returns-in-Err-clause-threaded g c =
     let f = g.F.Feed in let r = g.G.Feed in
     let fs = f.state in let gs = r.state in
     let back = c.in-Err.ensures.err in
-    refused _ c.args.settings.now _ _ _ _ _ _ _ _ _
-    (c.refused.ensures (ap outcome_of c.new.ensures)) (ap fs back.0) (ap gs back.1) refl
+    refused _ c.args.settings.now _ _ _ _ _ _ _ _ _ (ap fs back.0) (ap gs back.1) refl
     c.flush_after.ensures c.requires.forward c.requires.reverse

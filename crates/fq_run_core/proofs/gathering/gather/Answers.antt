@@ -3,7 +3,7 @@
 use Rattle.std.proofs.Common.{◌≡◌, arith, refl}
 use Rattle.fq_pair.specs.Mates.{name_lengths}
 use Rattle.fq_run_core.proofs.WalkLemmas.{is_in_hand, of_in_hand, if_in_hand}
-use Rattle.fq_run_core.proofs.GatherLemmas.{gathered_none, gathered_more, gathered_few, gathers_full, gathers_end, gathers_fault, gathers_refused, err_says, ok_says}
+use Rattle.fq_run_core.proofs.GatherLemmas.{gathered_none, gathered_more, gathered_few, gathers_full, gathers_end, gathers_fault, gathers_refused}
 use Rattle.fq_run_core.proofs.gathering.gather.Goals as goal
 
 -- before the first pair the texts and the tally are those of no pairs
@@ -34,16 +34,12 @@ add-requires-clause-room g c = let few = gathered_few c.args.steps.now
     c.args.tally.now _ _ _ _ _ c.loop.invariant in omega arith
 
 -- if memory for a pair is refused, the block has the pairs before it
-pub returns-then-is_err : goal.returns-then-is_err
-returns-then-is_err g c = let i = c.loop.invariant in let goes = i.goes in
+pub returns-in-Err-add : goal.returns-in-Err-add
+returns-in-Err-add g c = let i = c.loop.invariant in let goes = i.goes in
     let asked = rw c.in-Ok-true.field-0-test at c.in-Ok-true.ensures in
     let read = of_in_hand _ _ _ c.pair_in_hand-pair.ensures (asked.advances goes.last) in
-    gathers_refused c.args.steps.now c.args.tally.now _ _ _ _ _ _ _ _ _ _ (omega arith)
-    c.loop.invariant read
-    (err_says c.add.result c.is_err.result _ c.is_err.ensures.value c.if-is_err.true
-    c.add.ensures.err)
-    (err_says c.add.result c.is_err.result _ c.is_err.ensures.value c.if-is_err.true
-    c.add.ensures.kept)
+    gathers_refused c.args.steps.now c.args.tally.now _ _ _ _ _ _ _ _ _ _ _ (omega arith)
+    c.loop.invariant read c.in-Err-add.ensures.err c.in-Err-add.ensures.kept
 
 -- at the end of the input the block has the pairs before the end
 pub returns-in-Ok-false : goal.returns-in-Ok-false
@@ -69,10 +65,7 @@ loop-preserved g c = let i = c.loop.invariant in let goes = i.goes in
     let read = of_in_hand _ _ _ c.pair_in_hand-pair.ensures (asked.advances goes.last) in
     gathered_more c.args.steps.now c.args.tally.now _ _ _ _ _ _ _ _ _ c.loop.invariant
     read asked.within pair.forward pair.reverse refl refl
-    (ok_says c.add.result c.is_err.result _ c.is_err.ensures.value c.if-is_err.false
-    c.add.ensures.ok)
-    (ok_says c.add.result c.is_err.result _ c.is_err.ensures.value c.if-is_err.false
-    c.add.ensures.tally)
+    c.in_default.ensures.ok c.in_default.ensures.tally
 
 -- after the last turn the block is full
 pub returns : goal.returns

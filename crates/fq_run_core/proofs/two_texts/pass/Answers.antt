@@ -8,5 +8,5 @@ pub returns-in-Err : goal.returns-in-Err
 returns-in-Err g c =
     let f = g.F.Feed in let r = g.G.Feed in
     let same = c.in-Err.ensures.err in
-    runs_nothing _ c.args.settings.now _ _ _ _ _ _ c.nothing.ensures (ap f.state same.0)
+    runs_nothing _ _ c.args.settings.now _ _ _ _ _ _ c.nothing.ensures (ap f.state same.0)
     (ap r.state same.1)

@@ -16,7 +16,7 @@ loop-ends-preserved g c = record {
       c.loop-ends.invariant.seated
       (let P : Bool → Type 0 = λ holds. Seated c.args.settings.now.steps
       holds c.in-Some.ends
-      c.in-Some-start_worker.hand in
-      subst P (ap g.H.Gate.holds c.in-Ok.ensures) c.in-Some-start_worker.ensures)
+      c.in-Ok-start_worker.hand in
+      subst P (ap g.H.Gate.holds c.in-Ok.ensures) c.in-Ok-start_worker.ensures)
       c.push_reserved.ensures.items;
 }

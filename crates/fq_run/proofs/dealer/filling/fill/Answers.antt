@@ -2,7 +2,6 @@
 use Rattle.std.proofs.Common.{◌≡◌, arith, sym, ◌∙◌}
 use Rattle.fq_pair.specs.Mates.{name_lengths}
 use Rattle.fq_run_core.proofs.WalkLemmas.{is_in_hand, of_in_hand, if_in_hand}
-use Rattle.fq_run_core.proofs.GatherLemmas.{err_says, ok_says}
 use Rattle.fq_run.proofs.dealer.FillLemmas.{filled_none, filled_more, filled_encoding, fills_full, fills_end, fills_fault, fills_refused}
 use Rattle.fq_run.proofs.dealer.filling.fill.Goals as goal
 
@@ -54,13 +53,12 @@ pub returns : goal.returns
 returns g c = fills_full _ _ _ _ _ _ c.loop.invariant (omega arith)
 
 -- if memory for a pair is refused, the block has the pairs before it
-pub returns-then-is_err : goal.returns-then-is_err
-returns-then-is_err g c = let i = c.loop.invariant in let goes = i.goes in
+pub returns-in-Err-push_named : goal.returns-in-Err-push_named
+returns-in-Err-push_named g c = let i = c.loop.invariant in let goes = i.goes in
     let asked = rw c.in-Ok-true.field-0-test at c.in-Ok-true.ensures in
     let read = of_in_hand _ _ _ c.pair_in_hand-pair.ensures (asked.advances goes.last) in
-    fills_refused _ _ _ _ _ _ c.loop.invariant _ _ _ (omega arith) read
-    (err_says c.push_named.result c.is_err.result _ c.is_err.ensures.value c.if-is_err.true
-    c.push_named.ensures.err)
+    fills_refused _ _ _ _ _ _ c.loop.invariant _ _ _ _ (omega arith) read
+    c.in-Err-push_named.ensures.err
 
 -- a pair that was read and pushed is one more pair of the block
 pub loop-preserved : goal.loop-preserved
@@ -68,5 +66,4 @@ loop-preserved g c = let i = c.loop.invariant in let goes = i.goes in
     let asked = rw c.in-Ok-true.field-0-test at c.in-Ok-true.ensures in
     let read = of_in_hand _ _ _ c.pair_in_hand-pair.ensures (asked.advances goes.last) in
     filled_more _ _ _ _ _ _ _ _ c.loop.invariant read asked.within
-    (ok_says c.push_named.result c.is_err.result _ c.is_err.ensures.value c.if-is_err.false
-    c.push_named.ensures.ok)
+    c.in_default.ensures.ok
