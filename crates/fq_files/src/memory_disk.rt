@@ -89,7 +89,8 @@ impl MemoryDisk {
         }
     }
 
-    // Makes an inode that a name leads to, which led to none. If memory is refused, nothing changes.
+    // Makes an inode that a name leads to, which led to none. If memory is refused, nothing
+    // changes.
     fn create(&mut self, name: &str) -> Result<usize, OutOfMemory>
         requires { (disk_state_of self.old).inode_of name.now ≡ None }
         ensures leads { IfOk result (λ node. (disk_state_of self.new).inode_of name.now

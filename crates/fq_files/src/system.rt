@@ -130,8 +130,8 @@ impl<'a, R: rt::Files<File = File>> Disk for SystemDisk<'a, R> {
 /// A flush of a regular file waits until its bytes are on stable storage, and fails if the system
 /// reports only then that some were lost. It waits if the file's device has no block device of its
 /// own (its major number is 0), as on network file systems, in memory and on file systems over
-/// others, and on every device after [`sync_always`](crate::Files::sync_always). Elsewhere a write that
-/// succeeds has its place on the disk, and a flush does nothing.
+/// others, and on every device after [`sync_always`](crate::Files::sync_always). Elsewhere a write
+/// that succeeds has its place on the disk, and a flush does nothing.
 #[derive(Drop)]
 pub struct SystemTarget<W> {
     file: W,
