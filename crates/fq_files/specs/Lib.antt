@@ -1,4 +1,7 @@
+pub mod ByInode
 pub mod Devices
+pub mod Disks
 pub mod Holding
 pub mod Memory
+pub mod MemoryDisks
 pub mod States

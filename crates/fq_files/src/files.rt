@@ -45,8 +45,8 @@ impl From<OutOfMemory> for FileFault {
 /// Files by name: feeds of files that exist, and outlets of files that are created.
 ///
 /// Whether the bytes of files are known to the proof never changes. Those of files in memory are
-/// ([`MemoryFiles`](crate::MemoryFiles)), those of the system's files aren't
-/// ([`SystemFiles`](crate::SystemFiles)). The contracts speak of bytes, and of names that are held,
+/// ([`MemoryFiles`](crate::MemoryFiles)), those of files on a disk aren't
+/// ([`DiskFiles`](crate::DiskFiles)). The contracts speak of bytes, and of names that are held,
 /// only if the bytes are known. No call changes another name's bytes, or removes a name.
 ///
 /// The contracts also say which names may be refused, which lead to an input, for which names a

@@ -7,11 +7,11 @@ use std::collections::{BTreeMap, BTreeSet};
 
 // The numbers by which Linux says that there is no such file, that a call failed, and that there is
 // no memory.
-const MISSING: SystemError = SystemError { number: 2 };
+pub(crate) const MISSING: SystemError = SystemError { number: 2 };
 
-const FAILED: SystemError = SystemError { number: 5 };
+pub(crate) const FAILED: SystemError = SystemError { number: 5 };
 
-const NO_MEMORY: SystemError = SystemError { number: 12 };
+pub(crate) const NO_MEMORY: SystemError = SystemError { number: 12 };
 
 /// Files in memory. Their bytes are known to the proof.
 ///
@@ -155,7 +155,7 @@ impl Files for MemoryFiles {
             return Err(FileFault::Refused(Cause::Input));
         }
         self.put(name, &[])?;
-        Ok(MemoryTarget::new(self.alloc))
+        Ok(MemoryTarget::new(self.alloc, 0, false))
     }
 
     fn done(&mut self, name: &str, target: MemoryTarget) -> Option<SystemError> {
@@ -177,30 +177,39 @@ impl Files for MemoryFiles {
 /// The outlet that a file in memory is written to.
 #[derive(Drop)]
 pub struct MemoryTarget {
+    // The node of a disk in memory that it writes, and whether its flushes should wait.
+    pub(crate) node: usize,
+    pub(crate) syncs: bool,
     bytes: Vec<u8>,
-    failures: u64,
+    pub(crate) failures: u64,
     // Whether the last of the writes and flushes was a flush.
-    is_flushed: bool,
+    pub(crate) is_flushed: bool,
 }
 
 impl MemoryTarget {
     ghost use Rattle.std.specs.Prelude.{◌≡◌, []};
 
-    fn new(alloc: Global) -> MemoryTarget
+    pub(crate) fn new(alloc: Global, node: usize, syncs: bool) -> MemoryTarget
+        ensures node { result.node ≡ node }
+        ensures syncs { result.syncs ≡ syncs }
         ensures bytes { result.bytes.items ≡ [] }
         ensures failures { result.failures ≡ 0 }
     {
         MemoryTarget {
+            node,
+            syncs,
             bytes: Vec::new(alloc),
             failures: 0,
             is_flushed: false,
         }
     }
 
-    fn into_bytes(self) -> Vec<u8>
+    pub(crate) fn into_bytes(self) -> Vec<u8>
         ensures { result ≡ self.bytes }
     {
         let MemoryTarget {
+            node: _,
+            syncs: _,
             bytes,
             failures: _,
             is_flushed: _,

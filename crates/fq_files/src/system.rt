@@ -1,188 +1,124 @@
-//! Files of the operating system.
+//! The disk of the operating system.
 
-use crate::device::major_of;
-use crate::files::{Cause, FileFault, Files};
-use fq_text::{Feed, FromRead, OutOfMemory, Outlet, OutletFailed, Seen, SystemError, write_to};
-use std::alloc::Global;
+use crate::disk::{Closed, Disk, Facts, Kind, Opened, Written};
+use fq_text::{FromRead, OutOfMemory, Outlet, OutletFailed, Seen, SystemError, write_to};
 use std::fs::{self, File, Metadata, OpenFile, OpenOptions};
-use std::io::{self, Write};
+use std::io::Write;
 use std::os::unix::fs::MetadataExt;
 use std::rt;
 
-// The number by which Linux says that a file is a directory (`EISDIR`).
-const IS_DIRECTORY: SystemError = SystemError { number: 21 };
-
-// The fault of a file that the system refused with this error.
-fn refused(error: io::Error) -> FileFault {
-    FileFault::Refused(Cause::System(SystemError::of(error)))
-}
-
-/// What identifies a file of the system: its device, and its number (inode) there.
-#[derive(Clone, Copy, PartialEq, Eq)]
-struct Identity {
-    device: u64,
-    number: u64,
-}
-
-impl Identity {
-    fn of(metadata: &Metadata) -> Identity {
-        Identity {
-            device: metadata.dev(),
-            number: metadata.ino(),
-        }
+// What the system says of a file.
+fn facts_of(metadata: &Metadata) -> Facts {
+    let kind = if metadata.is_file() {
+        Kind::Regular
+    } else if metadata.is_dir() {
+        Kind::Directory
+    } else {
+        Kind::Device
+    };
+    Facts {
+        inode: (metadata.dev() as u128) * (1 << 64) + (metadata.ino() as u128),
+        kind,
+        length: metadata.len(),
     }
 }
 
-/// The files of the operating system. Their bytes are not known to the proof.
-///
-/// A file that was opened as an input is refused as an output, under any name, and is left
-/// unchanged. A regular file that is already an input is refused as another input, and one that is
-/// already an output is refused as another output. Every name may be refused, and every name may
-/// lead to an input. A failure counts for every name, and so does a target that was not flushed. A
-/// device may say each error.
+/// The disk of the operating system. Its names and bytes are not known to the proof: that its calls
+/// do what [`Disk`] says is tested. Each is one call of the standard library.
 #[derive(Drop)]
-pub struct SystemFiles<'a, R: rt::Files<File = File>> {
+pub struct SystemDisk<'a, R: rt::Files<File = File>> {
     runtime: &'a R,
-    inputs: Vec<Identity>,
-    // Only regular files: several outputs may go to one pipe or to `/dev/null`.
-    outputs: Vec<Identity>,
-    // Whether a flush waits for the disk on every device.
-    syncs_always: bool,
-    // Whether a device that was handed back has failed.
-    has_failed: bool,
-    // Whether a target was handed back that was not flushed.
-    has_unflushed: bool,
 }
 
-impl<'a, R: rt::Files<File = File>> SystemFiles<'a, R> {
-    /// The files that this runtime reaches.
-    pub fn new(alloc: Global, runtime: &'a R) -> SystemFiles<'a, R> {
-        SystemFiles {
-            runtime,
-            inputs: Vec::new(alloc),
-            outputs: Vec::new(alloc),
-            syncs_always: false,
-            has_failed: false,
-            has_unflushed: false,
-        }
-    }
-
-    /// Keeps the regular file that this name leads to from becoming an output, since something else
-    /// writes to it. Does nothing if the name leads to no regular file.
-    pub fn keep(&mut self, name: &str) -> Result<(), OutOfMemory> {
-        if let Ok(metadata) = fs::metadata(self.runtime, name) {
-            if metadata.is_file() {
-                self.outputs.push(Identity::of(&metadata))?;
-            }
-        }
-        Ok(())
-    }
-
-    // Whether this file was opened as an input.
-    fn is_input(&self, identity: Identity) -> bool {
-        self.inputs.iter().any(|input| *input == identity)
-    }
-
-    // Whether this file is already an output.
-    fn is_output(&self, identity: Identity) -> bool {
-        self.outputs.iter().any(|output| *output == identity)
-    }
-
-    // Whether a flush of a regular file waits for the disk. If the file's device has no block
-    // device of its own, the system may report an error late.
-    fn syncs(&self, identity: Identity) -> bool {
-        self.syncs_always || major_of(identity.device) == 0
+impl<'a, R: rt::Files<File = File>> SystemDisk<'a, R> {
+    /// The disk that this runtime reaches.
+    pub fn new(runtime: &'a R) -> SystemDisk<'a, R> {
+        SystemDisk { runtime }
     }
 }
 
-impl<'a, R: rt::Files<File = File>> Files for SystemFiles<'a, R> {
+/// An open file of the system.
+#[derive(Drop)]
+pub struct SystemFile {
+    file: File,
+}
+
+impl Opened for SystemFile {
+    ghost inode = { λ _. 0 };
+}
+
+impl<'a, R: rt::Files<File = File>> Disk for SystemDisk<'a, R> {
     ghost use Rattle.std.specs.Prelude.{true, false, None};
+    ghost use Rattle.fq_files.specs.Disks.{absent_inode};
 
-    type In = FromRead<File>;
+    type File = SystemFile;
 
-    type Target = SystemTarget<File>;
+    type Reader = FromRead<File>;
 
-    ghost state = { λ files. record {
+    type Writer = SystemTarget<File>;
+
+    ghost state = { λ _. record {
       tells = false;
-      bytes = λ _. None;
+      inode_of = λ _. None;
+      at = λ _. absent_inode;
       refuses = λ _ _. true;
-      may_say = λ _ _. true;
-      is_open = λ _. true;
-      has_failed = λ _. files.has_failed;
-      is_unflushed = λ _. files.has_unflushed;
+      fails = λ _ _. true;
     } };
 
-    fn source(&mut self, name: &str) -> Result<FromRead<File>, FileFault> {
-        let file = File::open(self.runtime, name).map_err(refused)?;
-        let metadata = file.metadata().map_err(refused)?;
-        let identity = Identity::of(&metadata);
-        if metadata.is_dir() {
-            return Err(FileFault::Refused(Cause::System(IS_DIRECTORY)));
-        }
-        if metadata.is_file() && self.is_input(identity) {
-            return Err(FileFault::Refused(Cause::Input));
-        }
-        self.inputs.push(identity).map_err(OutOfMemory::from)?;
-        Ok(FromRead::new(file))
+    fn open_read(&self, name: &str) -> Result<SystemFile, SystemError> {
+        let file = File::open(self.runtime, name).map_err(SystemError::of)?;
+        Ok(SystemFile { file })
     }
 
-    fn source_done(&mut self, _name: &str, feed: FromRead<File>) -> Seen {
-        if feed.failures() > 0 {
-            self.has_failed = true;
-        }
-        feed.seen()
-    }
-
-    fn leads_to_input(&self, name: &str) -> bool {
-        let found = fs::metadata(self.runtime, name);
-        found.is_ok_and(|metadata| self.is_input(Identity::of(&metadata)))
-    }
-
-    fn target(&mut self, name: &str) -> Result<SystemTarget<File>, FileFault> {
-        // The file is opened with its bytes, and emptied only once it is known to be neither an
-        // input nor another output.
+    fn open_write(&mut self, name: &str) -> Result<SystemFile, SystemError> {
         let mut options = OpenOptions::new();
         let opened = options.write(true).create(true).open(self.runtime, name);
-        let file = opened.map_err(refused)?;
-        let metadata = file.metadata().map_err(refused)?;
-        let identity = Identity::of(&metadata);
-        if self.is_input(identity) {
-            return Err(FileFault::Refused(Cause::Input));
-        }
-        if self.is_output(identity) {
-            return Err(FileFault::Refused(Cause::Output));
-        }
-        let is_regular = metadata.is_file();
-        if is_regular {
-            self.outputs.push(identity).map_err(OutOfMemory::from)?;
-            // An empty file isn't truncated: ext4 would begin to write it to the disk as soon as it
-            // is closed.
-            if metadata.len() > 0 {
-                file.set_len(0).map_err(refused)?;
-            }
-        }
-        Ok(SystemTarget {
-            file,
-            syncs: is_regular && self.syncs(identity),
+        let file = opened.map_err(SystemError::of)?;
+        Ok(SystemFile { file })
+    }
+
+    fn look(&self, file: &SystemFile) -> Result<Facts, SystemError> {
+        let metadata = file.file.metadata().map_err(SystemError::of)?;
+        Ok(facts_of(&metadata))
+    }
+
+    fn find(&self, name: &str) -> Option<Facts> {
+        let metadata = fs::metadata(self.runtime, name).ok()?;
+        Some(facts_of(&metadata))
+    }
+
+    fn empty(&mut self, file: &SystemFile) -> Result<(), SystemError> {
+        file.file.set_len(0).map_err(SystemError::of)
+    }
+
+    fn reader(&self, file: SystemFile) -> Result<FromRead<File>, OutOfMemory> {
+        Ok(FromRead::new(file.file))
+    }
+
+    fn seen(&self, reader: FromRead<File>) -> Seen {
+        reader.seen()
+    }
+
+    fn writer(&self, file: SystemFile, syncs: bool) -> SystemTarget<File> {
+        SystemTarget {
+            file: file.file,
+            syncs,
             failed_calls: 0,
             error: SystemError { number: 0 },
             is_flushed: false,
-        })
+        }
     }
 
-    fn sync_always(&mut self) {
-        self.syncs_always = true;
-    }
-
-    fn done(&mut self, _name: &str, target: SystemTarget<File>) -> Option<SystemError> {
-        if !target.is_flushed {
-            self.has_unflushed = true;
+    fn close(&mut self, writer: SystemTarget<File>) -> Closed {
+        let error = if writer.failed_calls > 0 {
+            Some(writer.error)
+        } else {
+            None
+        };
+        Closed {
+            error,
+            is_flushed: writer.is_flushed,
         }
-        if target.failed_calls == 0 {
-            return None;
-        }
-        self.has_failed = true;
-        Some(target.error)
     }
 }
 
@@ -194,8 +130,8 @@ impl<'a, R: rt::Files<File = File>> Files for SystemFiles<'a, R> {
 /// A flush of a regular file waits until its bytes are on stable storage, and fails if the system
 /// reports only then that some were lost. It waits if the file's device has no block device of its
 /// own (its major number is 0), as on network file systems, in memory and on file systems over
-/// others, and on every device after [`sync_always`](Files::sync_always). Elsewhere a write that
-/// succeeds has its place on the disk, and a flush does nothing.
+/// others, and on every device after [`sync_always`](crate::Files::sync_always). Elsewhere a write
+/// that succeeds has its place on the disk, and a flush does nothing.
 #[derive(Drop)]
 pub struct SystemTarget<W> {
     file: W,
@@ -208,20 +144,34 @@ pub struct SystemTarget<W> {
     is_flushed: bool,
 }
 
-impl<W> SystemTarget<W> {
-    ghost use Rattle.std.specs.Prelude.{◌≡◌, ◌<◌, ◌+◌};
+impl<W> Written for SystemTarget<W> {
+    ghost inode = { λ _. 0 };
 
-    // Counts one more failure, and keeps why.
-    fn fail(&mut self, error: SystemError) -> OutletFailed
+    ghost syncs = { λ t. t.syncs };
+}
+
+impl<W> SystemTarget<W> {
+    ghost use Rattle.std.specs.Prelude.{◌≡◌, ◌<◌, ◌+◌, Ok, Err, IsErr};
+
+    // What a call gave. If it failed, that is one more failure, and why is kept.
+    fn note<T>(&mut self, called: Result<T, SystemError>) -> Result<T, OutletFailed>
         requires { self.old.failed_calls < u64.MAX }
-        ensures { self.new ≡ record self.old {
-          failed_calls = self.old.failed_calls + 1;
-          error = error;
-        } }
+        ensures ok { (given : T) → called ≡ Ok given
+            → (result ≡ Ok given) × (self.new ≡ self.old) }
+        ensures err { (error : SystemError) → called ≡ Err error → IsErr result
+            × (self.new ≡ record self.old {
+              failed_calls = self.old.failed_calls + 1;
+              error = error;
+            }) }
     {
-        self.failed_calls += 1;
-        self.error = error;
-        OutletFailed
+        match called {
+            Ok(given) => Ok(given),
+            Err(error) => {
+                self.failed_calls += 1;
+                self.error = error;
+                Err(OutletFailed)
+            }
+        }
     }
 }
 
@@ -248,10 +198,8 @@ impl<W: Write + OpenFile> Outlet for SystemTarget<W> {
             (W.contents self.new.file) result bytes.now }
     {
         self.is_flushed = false;
-        match write_to(&mut self.file, bytes) {
-            Ok(n) => Ok(n),
-            Err(error) => Err(self.fail(error)),
-        }
+        let taken = write_to(&mut self.file, bytes);
+        self.note(taken)
     }
 
     fn flush(&mut self) -> Result<(), OutletFailed>
@@ -263,9 +211,8 @@ impl<W: Write + OpenFile> Outlet for SystemTarget<W> {
     {
         self.is_flushed = false;
         if self.syncs {
-            if let Err(e) = self.file.sync_data() {
-                return Err(self.fail(SystemError::of(e)));
-            }
+            let synced = self.file.sync_data().map_err(SystemError::of);
+            self.note(synced)?;
         }
         self.is_flushed = true;
         Ok(())

@@ -12,7 +12,7 @@ ghost use Rattle.fq_app.specs.Answers.{device_of, TookLines};
 ghost use Rattle.fq_app.specs.Calls.{ArgumentsAnswered, ExampleAnswered, PrintsByStatus, RequestAnswered, StaysSound};
 
 use fq_app::{out_of_memory, program};
-use fq_files::{Files, SystemFiles};
+use fq_files::{DiskFiles, Files, SystemDisk};
 use fq_text::{FromWrite, MemoryRefused, Outlet, send};
 use std::alloc::{AllocError, Global};
 use std::env::Env;
@@ -43,7 +43,7 @@ fn main(rt: HostRuntime) -> ExitCode {
     let errors = rt.stderr();
     let mut out = FromWrite::new(io::writer(&rt));
     let mut err = FromWrite::new(io::writer(&errors));
-    let mut files = SystemFiles::new(rt.alloc(), &rt);
+    let mut files = DiskFiles::new(rt.alloc(), SystemDisk::new(&rt));
     // An output that is the same regular file as standard output or standard error is refused.
     if let Err(e) = keep_outlets(&mut files) {
         return ExitCode::from(out_of_memory(&mut err, MemoryRefused::from(e)));
@@ -98,7 +98,7 @@ fn run<
 
 // Keeps the files of standard output and standard error from becoming outputs.
 fn keep_outlets<R: rt::Files<File = File>>(
-    files: &mut SystemFiles<'_, R>,
+    files: &mut DiskFiles<SystemDisk<'_, R>>,
 ) -> Result<(), AllocError> {
     files.keep("/dev/stdout")?;
     files.keep("/dev/stderr")
