@@ -1,5 +1,5 @@
--- Counts of the reads of a side, added up in any order. One more read for a sum is one more for what
--- is added.
+-- Counts of the reads of a side, added up in any order. One more read for a sum is one more for
+-- what is added.
 use Rattle.std.proofs.Common.{◌≡◌, ℕ, Bool, true, false, not, ◌&&◌, cond, List, [], ◌∷◌, min, max, refl, ap, ◌∙◌, arith}
 use Rattle.fq_text.specs.Grammar.{Read}
 use Rattle.fq_trim.specs.Sums.{capped_sum}
