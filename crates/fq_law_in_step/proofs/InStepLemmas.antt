@@ -1,5 +1,5 @@
 -- The texts that are defined for pairs of the inputs are in step.
-use Rattle.std.proofs.Common.{◌≡◌, ℕ, suc, ◌+◌, Bool, true, false, not, ◌||◌, Option, None, List, [], ◌∷◌, length, drop, map, filter, flat_map, take_while, refl, ap, sym, ◌∙◌}
+use Rattle.std.proofs.Common.{◌≡◌, ℕ, suc, ◌+◌, Bool, true, false, Option, None, List, [], ◌∷◌, length, drop, map, filter, flat_map, take_while, refl, ap, sym, ◌∙◌}
 use Rattle.std.specs.Bool.{then_some}
 use Rattle.std.specs.List.{All}
 use Rattle.std.proofs.lemmas.Bool.{cond-true}
@@ -12,12 +12,11 @@ use Rattle.fq_text.specs.Grammar.{Read}
 use Rattle.fq_text.specs.Records.{Records, records}
 use Rattle.fq_text.specs.Written.{as_written}
 use Rattle.fq_trim.specs.declared.step.Step.{Step}
-use Rattle.fq_trim.specs.Keeping.{recodes}
 use Rattle.fq_pair.specs.declared.fault.InputFault.{InputFault}
-use Rattle.fq_pair.specs.Mates.{Mates, names_match}
+use Rattle.fq_pair.specs.Mates.{Mates}
 use Rattle.fq_pair.specs.Pairing.{Pairs, mates_of, belong, pairs_of, behind, fault_at}
 use Rattle.fq_pair.specs.Outputs.{record_text, both_survive, forward_alone, reverse_alone, forward_records, reverse_records}
-use Rattle.fq_law_in_step.specs.Pieces.{left_of, trimmed, encoding_out}
+use Rattle.fq_law_in_step.specs.Pieces.{trimmed, encoding_out}
 use Rattle.fq_law_in_step.specs.InStep.{IsReadIn, IsPairIn, forward_reads, reverse_reads, IsReadAgain, trimmed_pair, ArePairsAgain, TextsAreInStep}
 use Rattle.fq_law_in_step.proofs.ReadLemmas.{many_again}
 use Rattle.fq_law_in_step.proofs.CountLemmas.{counts_add_up}
@@ -77,11 +76,7 @@ written_title false e r = refl
 module _ (check : Bool) (steps : List Step) where
   -- trimming keeps titles, so names match as before
   still_belong : (m : Mates) → belong check (trimmed_pair steps m) ≡ belong check m
-  still_belong m =
-      let f = written_title (recodes steps) m.forward.encoding (left_of steps m.forward) in
-      let r = written_title (recodes steps) m.reverse.encoding (left_of steps m.reverse) in
-      ap (λ (t : List ℕ). not check || names_match t (trimmed steps m.reverse).title) f
-      ∙ ap (λ (t : List ℕ). not check || names_match m.forward.title t) r
+  still_belong m = simp (written_title)
 
   -- the mates of a pair are at one place in both texts
   mates_again : (ms : List Mates) → mates_of (map (trimmed steps) (forward_reads ms))

@@ -1,5 +1,5 @@
 -- What is left of a read is one piece of it: steps keep consecutive places.
-use Rattle.std.proofs.Common.{◌≡◌, ℕ, zero, suc, ◌+◌, ◌-◌, ◌<◌, ◌≤◌, ◌⊎◌, inl, inr, Bool, true, false, not, ◌&&◌, List, [], ◌∷◌, length, take, drop, refl, ap, sym, subst, ◌∙◌, arith, ⊎_elim, leb, ltb, ◌++◌, flat_map}
+use Rattle.std.proofs.Common.{◌≡◌, ℕ, zero, suc, ◌+◌, ◌-◌, ◌<◌, ◌≤◌, ◌⊎◌, inl, inr, Bool, true, false, not, List, [], ◌∷◌, length, take, drop, refl, ap, sym, subst, ◌∙◌, arith, ⊎_elim, leb, ltb, ◌++◌, flat_map}
 use Rattle.std.specs.List.{list_any}
 use Rattle.std.proofs.lemmas.Bool.{cases_Bool, cases_lt, and_parts, and_from, or_left, or_right, or_cases, le-leb, leb-true, lt-ltb, ltb-true, both_ways}
 use Rattle.std.proofs.lemmas.List.{length-map, length-take-le, length-drop}
@@ -10,13 +10,14 @@ use Rattle.fq_text.specs.Scores.{value_of}
 use Rattle.fq_text.specs.Written.{as_written, written_quality, line}
 use Rattle.fq_trim.specs.declared.step.Step.{Step}
 use Rattle.fq_trim.specs.declared.step.Step.TheVariants.{Leading, Trailing, Crop, HeadCrop, SlidingWindow, AverageQuality, MinLen, ToPhred33}
-use Rattle.fq_trim.specs.Keeping.{scores, places, keeps, kept_of, recodes, IsBetween, is_good_end, is_good_window}
+use Rattle.fq_trim.specs.Keeping.{scores, places, keeps, kept_of, recodes, IsBetween}
 use Rattle.fq_trim.specs.KeptPlaces.{kept_places, bytes_at, is_empty}
 use Rattle.fq_trim.proofs.PlaceLemmas.{scores_at, step_keeps}
 use Rattle.fq_pair.specs.Mates.{name_of}
 use Rattle.fq_pair.specs.Outputs.{log_numbers, log_line, field}
 use Rattle.fq_pair.proofs.TextLemmas.{log_numbers-places}
 use Rattle.fq_law_in_step.specs.Pieces.{left_of, quality_out, piece_numbers, ReadsStayInOnePiece}
+use Rattle.std.proofs.lemmas.Grind.{common_steps}
 
 -- A test that holds from some place on, or up to some place.
 
@@ -35,13 +36,7 @@ record UpTo (test : ℕ → Bool) (n : ℕ) : Type 0 where
   is : IsBetween test n 0 hi
 
 none_between : (test : ℕ → Bool) → IsBetween test 0 0 0
-none_between test = record {
-  order = omega arith;
-  within = omega arith;
-  before = λ k lt in_n. absurd (omega arith);
-  inside = λ k from lt. absurd (omega arith);
-  behind = λ k from lt. absurd (omega arith);
-}
+none_between test = grind (arith, common_steps)
 
 more_from : (test : ℕ → Bool) (n lo : ℕ) → IsBetween test n lo n → (lo < n → test n ≡ true) →
     (test n ≡ true) ⊎ (test n ≡ false) → From test (suc n)
@@ -124,11 +119,7 @@ fewer_falls test n falls k lt is = falls k (omega arith) is
 last_falls : (test : ℕ → Bool) (n hi : ℕ) → IsBetween test n 0 hi → Falls test (suc n) →
     test n ≡ true → n ≤ hi
 last_falls test zero hi b falls is = omega arith
-last_falls test (suc n) hi b falls is = ⊎_elim
-    (λ (less : hi < suc n). absurd (both_ways (test n) (b.behind n (omega arith) (omega arith))
-    (falls n (omega arith) is)))
-    (λ (all : suc n ≤ hi). all)
-    (cases_lt hi (suc n))
+last_falls test (suc n) hi b falls is = grind (arith, common_steps, both_ways, cases_lt)
 
 up_to_there : (test : ℕ → Bool) (n : ℕ) → Falls test n → UpTo test n
 up_to_there test zero falls = record { hi = 0; is = none_between test }
@@ -171,12 +162,7 @@ abbrev fallen : {test : ℕ → Bool} {n : ℕ} → UpTo test n → Between test
 fallen {test} {n} u = record { lo = 0; hi = u.hi; is = u.is }
 
 window_falls : (w t : ℕ) (q : List ℕ) → Falls (keeps (SlidingWindow w t) q) (length q)
-window_falls w t q k lt is =
-    let parts = and_parts (leb w (length q) && is_good_window w t q 0)
-    (list_any (is_good_end w t q) (places (suc k) (length q - suc k))) is in
-    let e : length q - k ≡ suc (length q - suc k) = omega arith in
-    and_from _ _ parts.0 (ap (λ n. list_any (is_good_end w t q) (places k n)) e
-    ∙ any_earlier (is_good_end w t q) k (length q - suc k) parts.1)
+window_falls w t q k lt is = grind (arith, and_parts, and_from, any_earlier)
 
 between : (step : Step) (q : List ℕ) → Between (keeps step q) (length q)
 between (Leading t) q =
@@ -203,26 +189,12 @@ pub record Span (q : List ℕ) (kept : List ℕ) : Type 0 where
   pub places_are : kept ≡ places start (stop - start)
 
 span_on : {q xs ys : List ℕ} → xs ≡ ys → Span q ys → Span q xs
-span_on e s = record {
-  start = s.start;
-  stop = s.stop;
-  order = s.order;
-  within =
-      s.within;
-  places_are = e ∙ s.places_are;
-}
+span_on e s = grind (arith, common_steps)
 
 -- of consecutive places steps keep consecutive places
 pub spans : (steps : List Step) (q : List ℕ) (start stop : ℕ) → start ≤ stop → stop ≤ length q →
     Span q (kept_of steps q (places start (stop - start)))
-spans [] q start stop order within = record {
-  start = start;
-  stop = stop;
-  order = order;
-  within =
-      within;
-  places_are = refl;
-}
+spans [] q start stop order within = grind (arith, common_steps)
 spans (step ∷ steps) q start stop order within =
     let part = take (stop - start) (drop start q) in
     let size : length part ≡ stop - start = length-take-le (stop - start) (drop start q)

@@ -1,25 +1,26 @@
 -- What is left of a read can be read again.
-use Rattle.std.proofs.Common.{◌≡◌, ℕ, zero, suc, ◌<◌, ◌≤◌, Bool, true, false, cond, List, [], ◌∷◌, ◌++◌, length, get_or, map, flat_map, refl, ap, sym, subst, ◌∙◌, arith, ⊎_elim, None}
+use Rattle.std.proofs.Common.{◌≡◌, ℕ, zero, suc, ◌<◌, ◌≤◌, Bool, true, false, cond, List, [], ◌∷◌, ◌++◌, length, get_or, map, flat_map, refl, ap, sym, subst, ◌∙◌, arith, None}
 use Rattle.std.specs.Bool.{then_some}
 use Rattle.std.specs.List.{All, list_all}
-use Rattle.std.proofs.lemmas.Bool.{cond-true, cond-false, cases_Bool, and_parts, and_from, not_from_false, ne_eqb, both_ways}
+use Rattle.std.proofs.lemmas.Bool.{cases_Bool, and_parts, and_from, not_from_false, ne_eqb, both_ways}
 use Rattle.std.proofs.lemmas.List.{length-map}
 use Rattle.std.proofs.lemmas.List.Elements.{All-head, All-tail}
 use Rattle.fq_text.specs.declared.encoding.Encoding.{Encoding}
 use Rattle.fq_text.specs.declared.encoding.Encoding.TheVariants.{Sanger}
-use Rattle.fq_text.specs.Scores.{is_scored, value_of}
-use Rattle.fq_text.specs.Grammar.{Read, IsLawful, is_base, begins_with}
+use Rattle.fq_text.specs.Scores.{is_scored}
+use Rattle.fq_text.specs.Grammar.{Read, IsLawful, begins_with}
 use Rattle.fq_text.specs.Records.{with_first, records}
 use Rattle.fq_text.specs.Written.{as_written, CanRecode}
 use Rattle.fq_text.proofs.WrittenLemmas.{reads_back}
 use Rattle.fq_trim.specs.declared.step.Step.{Step}
-use Rattle.fq_trim.specs.Keeping.{scores, places, select, keeps, kept_of, recodes}
+use Rattle.fq_trim.specs.Keeping.{scores, select, keeps, kept_of, recodes}
 use Rattle.fq_trim.specs.KeptPlaces.{kept_places, bytes_at}
 use Rattle.fq_trim.proofs.PlaceLemmas.{length-places}
 use Rattle.fq_trim.proofs.KeptLemmas.{Below, kept_below, places_below}
 use Rattle.fq_pair.specs.Outputs.{record_text}
 use Rattle.fq_law_in_step.specs.Pieces.{left_of, trimmed, encoding_out, IsPlain, is_letter, LettersArePlain}
 use Rattle.fq_law_in_step.specs.InStep.{IsReadIn}
+use Rattle.std.proofs.lemmas.Grind.{common_steps}
 
 -- Bytes at some places.
 
@@ -38,16 +39,7 @@ hold_at p xs (i ∷ is) below all = and_from _ _ (holds_at p xs i below.0 all)
 
 few_selected : (test : ℕ → Bool) (j : ℕ) (ps : List ℕ) → length (select test j ps) ≤ length ps
 few_selected test j [] = omega arith
-few_selected test j (p ∷ ps) =
-    let rest = few_selected test (suc j) ps in
-    ⊎_elim
-    (λ is. let e =
-    ap length (cond-true (test j) (p ∷ select test (suc j) ps) (select test (suc j) ps) is) in
-    omega arith)
-    (λ is. let e =
-    ap length (cond-false (test j) (p ∷ select test (suc j) ps) (select test (suc j) ps) is) in
-    omega arith)
-    (cases_Bool (test j))
+few_selected test j (p ∷ ps) = grind (arith, common_steps, cases_Bool, few_selected test (suc j) ps)
 
 few_kept : (steps : List Step) (q ps : List ℕ) → length (kept_of steps q ps) ≤ length ps
 few_kept [] q ps = omega arith
@@ -63,46 +55,17 @@ module _ (steps : List Step) (read : Read) where
   -- the places that steps keep of a read are places of its bases
   pub kept_below_read : length read.qual ≡ length read.seq →
       Below (length read.seq) (kept_places steps read)
-  kept_below_read same =
-      let q = scores read.encoding read.qual in
-      let size : length q ≡ length read.seq = length-map read.qual (value_of read.encoding)
-      ∙ same in
-      subst (λ n. Below n (kept_places steps read)) size
-      (kept_below steps q (length q) (places 0 (length q))
-      (places_below (length q) 0 (length q) (omega arith)))
+  kept_below_read same = grind (arith, common_steps, length-map, kept_below, places_below)
 
   few_bases : length read.qual ≡ length read.seq →
       length (bytes_at (kept_places steps read) read.seq) ≤ length read.seq
-  few_bases same =
-      let q = scores read.encoding read.qual in
-      let size = length-map read.qual (value_of read.encoding) in
-      let kept = few_kept steps q (places 0 (length q)) in
-      let all = length-places 0 (length q) in
-      let bases = length-map (kept_places steps read) (λ (i : ℕ). get_or read.seq i 0) in
-      omega arith
+  few_bases same = grind (arith, common_steps, length-map, few_kept, length-places)
 
   -- what is left of a plain read is a valid read
   left_lawful : (encoding : Encoding) → IsReadIn encoding read → IsPlain steps read →
       IsLawful (left_of steps read)
   left_lawful encoding is plain =
-      let lawful = is.lawful in
-      let below = kept_below_read lawful.same_len in
-      let fits = lawful.seq_fits in
-      let few = few_bases lawful.same_len in
-      let below_qual : Below (length read.qual) (kept_places steps read) =
-      subst (λ n. Below n (kept_places steps read)) (sym lawful.same_len) below in
-      record {
-        one_line = lawful.one_line;
-        title_fits = lawful.title_fits;
-        seq_fits = omega arith;
-        bases = hold_at is_base read.seq (kept_places steps read) below lawful.bases;
-        no_title = not_from_false _ plain.no_title;
-        no_plus = not_from_false _ plain.no_plus;
-        same_len = length-map (kept_places steps read) (λ (i : ℕ). get_or read.qual i 0)
-            ∙ sym (length-map (kept_places steps read) (λ (i : ℕ). get_or read.seq i 0));
-        scores = hold_at (is_scored read.encoding) read.qual (kept_places steps read) below_qual
-            lawful.scores;
-      }
+      grind (arith, common_steps, kept_below_read, few_bases, hold_at, not_from_false, length-map)
 
 can_recode : (b : Bool) (e : Encoding) (qual : List ℕ) → list_all (is_scored e) qual ≡ true →
     CanRecode (then_some b e) qual

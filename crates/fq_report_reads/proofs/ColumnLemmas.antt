@@ -4,7 +4,6 @@ use Rattle.std.proofs.Common.{◌≡◌, ℕ, ◌+◌, ◌*◌, ◌<◌, ◌≤�
 use Rattle.std.specs.List.{All, list_all}
 use Rattle.std.proofs.lemmas.List.{take_more, length-take-le, length-map, map-append}
 use Rattle.std.proofs.lemmas.Bool.{and_from}
-use Rattle.std.proofs.lemmas.List.Elements.{All-cons, All-nil}
 use Rattle.fq_text.specs.declared.encoding.Encoding.{Encoding}
 use Rattle.fq_text.specs.Scores.{is_scored, value_of}
 use Rattle.fq_text.proofs.ScoreLemmas.{at_place}
@@ -19,6 +18,7 @@ use Rattle.fq_report_reads.specs.Counting.{AtMost, IsFew, by_position, lane_scor
 use Rattle.fq_report_reads.specs.Columns.{AreCleared, AreFew, columns_from, columns_of, columns_plus, columns_tables, each_column, empty_rows, first_rows, lanes_at, no_columns, one_in}
 use Rattle.fq_report_reads.proofs.PositionLemmas.{one_if_small, ones_joined, placed_joined, placed_none, placed_one, rows_assoc, rows_comm, scores_small}
 use Rattle.fq_report_reads.proofs.FewLemmas.{lanes_bases, lanes_scores, mapped_at_most, placed_short, row_behind, row_cut, row_more, row_nothing, row_weaker, scores_at_most, zeros_in_front, zeros_mapped}
+use Rattle.std.proofs.lemmas.Grind.{common_steps}
 
 -- columns are the same if each of them is
 pub columns_same : (x y : Columns) → x.bases ≡ y.bases → x.score_sum ≡ y.score_sum →
@@ -29,40 +29,29 @@ columns_same x y bases score_sum q30_bases a c g t n =
 -- of three sets of columns, it makes no difference which two are added first
 pub columns_assoc : (x y z : Columns) → columns_plus (columns_plus x y) z ≡ columns_plus x
     (columns_plus y z)
-columns_assoc x y z =
-    columns_same (columns_plus (columns_plus x y) z) (columns_plus x (columns_plus y z))
-    (rows_assoc x.bases y.bases z.bases) (rows_assoc x.score_sum y.score_sum z.score_sum)
-    (rows_assoc x.q30_bases y.q30_bases z.q30_bases)
-    (rows_assoc x.a y.a z.a) (rows_assoc x.c y.c z.c) (rows_assoc x.g y.g z.g)
-    (rows_assoc x.t y.t z.t) (rows_assoc x.n y.n z.n)
+columns_assoc x y z = simp rows_assoc
 
 -- two sets of columns can be added in either order
 pub columns_comm : (x y : Columns) → columns_plus x y ≡ columns_plus y x
-columns_comm x y =
-    columns_same (columns_plus x y) (columns_plus y x)
-    (rows_comm x.bases y.bases) (rows_comm x.score_sum y.score_sum)
-    (rows_comm x.q30_bases y.q30_bases)
-    (rows_comm x.a y.a) (rows_comm x.c y.c) (rows_comm x.g y.g) (rows_comm x.t y.t)
-    (rows_comm x.n y.n)
+columns_comm x y = simp rows_comm
 
 -- adding the columns of no bases changes nothing
 pub columns_none : (x : Columns) → columns_plus x no_columns ≡ x
-columns_none x =
-    columns_same (columns_plus x no_columns) x
-    (plus_none x.bases) (plus_none x.score_sum) (plus_none x.q30_bases) (plus_none x.a)
-    (plus_none x.c) (plus_none x.g) (plus_none x.t) (plus_none x.n)
+columns_none x = simp plus_none
 
--- Sums in another order.
+-- of three sets of columns, the last can be added before the second
 pub columns_swap : (x y z : Columns) → columns_plus (columns_plus x y) z ≡ columns_plus
     (columns_plus x z) y
 columns_swap x y z = columns_assoc x y z ∙ ap (columns_plus x) (columns_comm y z)
     ∙ sym (columns_assoc x z y)
 
--- of four sets of columns, the last can be added to the first before the other two
-pub columns_both : (w x y z : Columns) → columns_plus (columns_plus (columns_plus w y) z) x
-    ≡ columns_plus (columns_plus w x) (columns_plus y z)
-columns_both w x y z = ap (λ v. columns_plus v x) (columns_assoc w y z)
-    ∙ columns_swap w (columns_plus y z) x
+-- sums of two, added up
+pub columns_four : (w x y z : Columns) → columns_plus (columns_plus w x) (columns_plus y z)
+    ≡ columns_plus (columns_plus w y) (columns_plus x z)
+columns_four w x y z =
+    sym (columns_assoc (columns_plus w x) y z)
+    ∙ ap (λ v. columns_plus v z) (columns_swap w x y)
+    ∙ columns_assoc (columns_plus w y) x z
 
 -- The columns of bases are those of the first of them and of the others together.
 pub columns_joined : (at k : ℕ) (e : Encoding) (seq qual others bytes : List ℕ) →
@@ -92,19 +81,12 @@ columns_joined at k e seq qual others bytes behind same alike few less scored al
 -- no bases, after a place
 pub columns_empty : (at rows : ℕ) (e : Encoding) → rows ≡ min at 10001 →
     empty_rows rows ≡ columns_from at e [] []
-columns_empty at rows e is =
-    let none = placed_none at rows is in
-    columns_same (empty_rows rows) (columns_from at e [] []) none none none none none none none none
+columns_empty at rows e is = simp (placed_none at rows is)
 
 -- one base
 pub columns_one : (at row base byte : ℕ) (e : Encoding) → row ≡ min at 10000 →
     one_in row base (value_of e byte) ≡ columns_from at e (base ∷ []) (byte ∷ [])
-columns_one at row base byte e is =
-    let one = λ (a : ℕ). placed_one at row a is in
-    columns_same (one_in row base (value_of e byte)) (columns_from at e (base ∷ []) (byte ∷ []))
-    (one 1) (one (value_of e byte)) (one (one_if (nat_le 30) (value_of e byte)))
-    (one (one_if is_a base)) (one (one_if is_c base)) (one (one_if is_g base))
-    (one (one_if is_t base)) (one (one_if is_n base))
+columns_one at row base byte e is = simp (λ (a : ℕ). placed_one at row a is)
 
 -- one more of several bases is counted
 pub counted_next : (start now new : Columns) (at i row score : ℕ) (e : Encoding)
@@ -143,34 +125,13 @@ pub lanes_are_columns : (at : ℕ) (e : Encoding) (s q : List ℕ) → list_all 
     length q ≡ length s → at + length s ≤ 10000 →
     lanes_at at e s q ≡ columns_from at e s q
 lanes_are_columns at e s q all same near =
-    let shift = λ (ns : List ℕ). replicate at 0 ++ ns in
-    let sc = lanes_scores e q all in
-    let letters =
-    λ (p : ℕ → Bool). sym (placed_short at (map (one_if p) s)
-    (omega (arith, length-map s (one_if p)))) in
-    columns_same (lanes_at at e s q) (columns_from at e s q)
-    (ap shift (lanes_bases e q s all same)
-    ∙ sym (placed_short at (map (λ _. 1) s) (omega (arith, length-map {B = ℕ} s (λ _. 1)))))
-    (ap shift sc ∙ sym (placed_short at (scores e q) (omega (arith, length-map q (value_of e)))))
-    (ap (λ ns. shift (map (one_if (nat_le 30)) ns)) sc
-    ∙ sym (placed_short at (map (one_if (nat_le 30)) (scores e q))
-    (omega (arith, length-map (scores e q) (one_if (nat_le 30)), length-map q (value_of e)))))
-    (letters is_a) (letters is_c) (letters is_g) (letters is_t) (letters is_n)
+    grind (arith, common_steps, lanes_scores, placed_short, length-map, columns_same, lanes_bases)
 
 -- lanes after k zeros are the same lanes, k places further on
 pub lanes_moved : (at k : ℕ) (e : Encoding) (s q : List ℕ) →
     lanes_at at e (replicate k 0 ++ s) (replicate k 0 ++ q) ≡ lanes_at (at + k) e s q
 lanes_moved at k e s q =
-    let letters = λ (p : ℕ → Bool) (none : one_if p 0 ≡ 0). zeros_in_front (one_if p) none at k s in
-    let first = map-append (lane_score e) (replicate k 0) q
-    ∙ ap (λ ns. ns ++ map (lane_score e) q) (zeros_mapped (lane_score e) refl k) in
-    columns_same (lanes_at at e (replicate k 0 ++ s) (replicate k 0 ++ q)) (lanes_at (at + k) e s q)
-    (zeros_in_front (one_if (nat_le 1)) refl at k q)
-    (zeros_in_front (lane_score e) refl at k q)
-    (ap (λ ns. replicate at 0 ++ map (one_if (nat_le 30)) ns) first
-    ∙ zeros_in_front (one_if (nat_le 30)) refl at k (map (lane_score e) q))
-    (letters is_a refl) (letters is_c refl) (letters is_g refl) (letters is_t refl)
-    (letters is_n refl)
+    grind (arith, common_steps, zeros_in_front, map-append, zeros_mapped, columns_same)
 
 -- zeros after the lanes of a vector add nothing to the rows of a few reads
 pub lanes_behind : (x : Columns) (rows len reads at k : ℕ) (e : Encoding) (s q : List ℕ) →
@@ -200,32 +161,13 @@ lanes_behind x rows len reads at k e s q few bound same room =
 -- rows such as some reads can give are such as more reads can give that reach further
 pub few_weaker : (x : Columns) (rows rows' len len' reads reads' : ℕ) → AreFew rows len reads x →
     rows' ≤ rows → len ≤ len' → reads ≤ reads' → AreFew rows' len' reads' x
-few_weaker x rows rows' len len' reads reads' few less order bound = record {
-  bases = row_weaker rows rows' len len' reads reads' x.bases few.bases less order bound;
-  score_sum = row_weaker rows rows' len len' (93 * reads) (93 * reads') x.score_sum few.score_sum
-      less order (omega arith);
-  q30_bases = row_weaker rows rows' len len' reads reads' x.q30_bases few.q30_bases less order
-      bound;
-  a = row_weaker rows rows' len len' reads reads' x.a few.a less order bound;
-  c = row_weaker rows rows' len len' reads reads' x.c few.c less order bound;
-  g = row_weaker rows rows' len len' reads reads' x.g few.g less order bound;
-  t = row_weaker rows rows' len len' reads reads' x.t few.t less order bound;
-  n = row_weaker rows rows' len len' reads reads' x.n few.n less order bound;
-}
+few_weaker x rows rows' len len' reads reads' few less order bound =
+    grind (arith, common_steps, row_weaker)
 
 -- columns that were cleared hold nothing of a few reads
 pub few_cleared : (x y : Columns) (rows count most : ℕ) → AreCleared x y →
     AreFew rows count most x → AreFew rows 0 0 y
-few_cleared x y rows count most cleared few = record {
-  bases = cleared.bases rows few.bases.size;
-  score_sum = cleared.score_sum rows few.score_sum.size;
-  q30_bases = cleared.q30_bases rows few.q30_bases.size;
-  a = cleared.a rows few.a.size;
-  c = cleared.c rows few.c.size;
-  g = cleared.g rows few.g.size;
-  t = cleared.t rows few.t.size;
-  n = cleared.n rows few.n.size;
-}
+few_cleared x y rows count most cleared few = grind (arith)
 
 -- no lanes add nothing to the rows of a few reads
 pub lanes_nothing : (x : Columns) (rows len reads at : ℕ) (e : Encoding) → AreFew rows len reads x →
@@ -312,47 +254,15 @@ pub record OfEach (P : List ℕ → Type 0) (x : Columns) : Type 0 where
 
 -- what holds of no rows holds of the columns of no bases
 pub each_of_none : (P : List ℕ → Type 0) → P [] → OfEach P no_columns
-each_of_none P none = record {
-  bases = none;
-  score_sum = none;
-  q30_bases = none;
-  a = none;
-  c = none;
-  g = none;
-  t = none;
-  n = none;
-}
+each_of_none P none = grind (arith, common_steps)
 
 -- if one number for each base of a read turns P into Q in any column, it does in each
 pub each_with_read : (P Q : List ℕ → Type 0) (x : Columns) (part : Part) →
     length part.qual ≡ length part.seq →
     ((xs ns : List ℕ) → P xs → length ns ≡ length part.seq → Q (rows_plus xs (by_position ns))) →
     OfEach P x → OfEach Q (columns_plus x (columns_of part))
-each_with_read P Q x part same more each =
-    let s = part.seq in
-    let q = scores part.encoding part.qual in
-    let scored : length q ≡ length s = length-map part.qual _ ∙ same in
-    record {
-      bases = more x.bases (map (λ _. 1) s) each.bases (length-map s _);
-      score_sum = more x.score_sum q each.score_sum scored;
-      q30_bases = more x.q30_bases (map (one_if (nat_le 30)) q) each.q30_bases
-          (length-map q _ ∙ scored);
-      a = more x.a (map (one_if is_a) s) each.a (length-map s _);
-      c = more x.c (map (one_if is_c) s) each.c (length-map s _);
-      g = more x.g (map (one_if is_g) s) each.g (length-map s _);
-      t = more x.t (map (one_if is_t) s) each.t (length-map s _);
-      n = more x.n (map (one_if is_n) s) each.n (length-map s _);
-    }
+each_with_read P Q x part same more each = grind (arith, common_steps, length-map)
 
 -- what holds of each column holds of all their tables
 pub each_listed : (P : List ℕ → Type 0) (x : Columns) → OfEach P x → All P (columns_tables x)
-each_listed P x each =
-    let n = All-cons P x.n [] each.n (All-nil P) in
-    let t = All-cons P x.t (x.n ∷ []) each.t n in
-    let g = All-cons P x.g (x.t ∷ x.n ∷ []) each.g t in
-    let c = All-cons P x.c (x.g ∷ x.t ∷ x.n ∷ []) each.c g in
-    let a = All-cons P x.a (x.c ∷ x.g ∷ x.t ∷ x.n ∷ []) each.a c in
-    let q = All-cons P x.q30_bases (x.a ∷ x.c ∷ x.g ∷ x.t ∷ x.n ∷ []) each.q30_bases a in
-    let s = All-cons P x.score_sum (x.q30_bases ∷ x.a ∷ x.c ∷ x.g ∷ x.t ∷ x.n ∷ []) each.score_sum q
-    in
-    All-cons P x.bases (x.score_sum ∷ x.q30_bases ∷ x.a ∷ x.c ∷ x.g ∷ x.t ∷ x.n ∷ []) each.bases s
+each_listed P x each = grind (arith, common_steps)

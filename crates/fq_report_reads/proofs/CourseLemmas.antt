@@ -9,6 +9,7 @@ use Rattle.fq_trim.specs.Keeping.{kept, kept_of, only, scores, places}
 use Rattle.fq_trim.proofs.PlaceLemmas.{length-places, length-scores, scores_at, scores_of_part}
 use Rattle.fq_report_reads.specs.Courses.{Part, part_at, whole, Course, alone, after, course_of}
 use Rattle.fq_report_reads.proofs.LeftLaws.{at, kept_within, kept_append, kept_none}
+use Rattle.std.proofs.lemmas.Grind.{common_steps}
 
 -- bases and their quality bytes as a part of a read
 abbrev pub part : Encoding → List ℕ → List ℕ → Part
@@ -46,17 +47,7 @@ pub course_kept : (number : ℕ) (steps : List Step) (others : List (List Step))
     course_of number (steps ∷ others) p ≡ kept_course number k.start (k.stop - k.start) p (course_of
     (suc number) others (cut k.start (k.stop - k.start) p))
 course_kept number steps others p k is within same =
-    let some = k.some in
-    let n = k.stop - k.start in
-    let seq = scores_at p.seq k.start n (omega arith) in
-    let qual = scores_at p.qual k.start n (omega arith) in
-    ap (λ (at : List ℕ). after number at p (course_of (suc number) others (part_at at p))) is
-    ∙ after_places number k.start n p (course_of (suc number) others (part_at (places k.start n) p))
-    (omega arith)
-    ∙ ap (λ (s : List ℕ). kept_course number k.start n p
-    (course_of (suc number) others (part p.encoding s (part_at (places k.start n) p).qual))) seq
-    ∙ ap (λ (q : List ℕ). kept_course number k.start n p
-    (course_of (suc number) others (part p.encoding (take n (drop k.start p.seq)) q))) qual
+    grind (arith, common_steps, scores_at, at, after_places)
 
 -- a list of steps that keeps nothing
 pub course_dropped : (number : ℕ) (steps : List Step) (others : List (List Step)) (p : Part) →
@@ -81,12 +72,7 @@ pub next_kept : (number : ℕ) (lists : List (List Step)) (encoding : Encoding) 
     (course_of (number + 1) (drop (number + 1) lists)
     (cut k.start (k.stop - k.start) (part encoding seq qual)))
 next_kept number lists encoding seq qual k lt is within same =
-    let p = part encoding seq qual in
-    let n = k.stop - k.start in
-    ap (λ (ls : List (List Step)). course_of number ls p) (drop_more lists number [] lt)
-    ∙ course_kept number (get_or lists number []) (drop (number + 1) lists) p k is within same
-    ∙ ap (λ (m : ℕ). kept_course number k.start n p
-    (course_of m (drop (number + 1) lists) (cut k.start n p))) (sym (add-one number))
+    grind (arith, drop_more, course_kept, add-one)
 
 -- a list that is taken in turn and keeps no place drops what is left of the read
 pub next_dropped : (number : ℕ) (lists : List (List Step)) (encoding : Encoding)
@@ -100,10 +86,7 @@ pub next_dropped : (number : ℕ) (lists : List (List Step)) (encoding : Encodin
       dropped = number ∷ [];
     }
 next_dropped number lists encoding seq qual lt is =
-    ap (λ (ls : List (List Step)). course_of number ls (part encoding seq qual))
-    (drop_more lists number [] lt)
-    ∙ course_dropped number (get_or lists number []) (drop (number + 1) lists)
-    (part encoding seq qual) is
+    grind (arith, common_steps, drop_more, course_dropped)
 
 -- after the last list
 pub none_next : (number : ℕ) (lists : List (List Step)) (p : Part) → length lists ≤ number →
@@ -139,11 +122,7 @@ at_places s (suc m) (suc a) lt = let rest = at_places (suc s) m a (omega arith) 
 -- places of places
 places_at : (s m a n : ℕ) → a + n ≤ m → map (at (places s m)) (places a n) ≡ places (s + a) n
 places_at s m a zero le = refl
-places_at s m a (suc n) le =
-    let next : s + suc a ≡ suc (s + a) = omega arith in
-    ap (λ x. x ∷ map (at (places s m)) (places (suc a) n)) (at_places s m a (omega arith))
-    ∙ ap (λ xs. (s + a) ∷ xs) (places_at s m (suc a) n (omega arith))
-    ∙ ap (λ b. (s + a) ∷ places b n) next
+places_at s m a (suc n) le = grind (arith, common_steps, at, at_places, places_at s m (suc a) n)
 
 -- a part of a part
 part_again : {X : Type 0} (xs : List X) (s m a n : ℕ) → a + n ≤ m →
@@ -172,22 +151,14 @@ module _ (steps : List Step) (read : Read) (number start stop : ℕ)
 
   hand_scores : scores read.encoding at_hand.qual
       ≡ map (at read_scores) (places start (stop - start))
-  hand_scores = let size = length-scores read.encoding read.qual in
-      scores_of_part read.encoding read.qual start (stop - start)
-      ∙ sym (scores_at read_scores start (stop - start) (omega arith))
+  hand_scores = grind (arith, common_steps, length-scores, scores_of_part, scores_at)
 
   one_more : (ns : List ℕ) → kept (only number steps) (scores read.encoding at_hand.qual) ≡ ns →
       kept_of (drop number steps) read_scores (places start (stop - start))
       ≡ kept_of (drop (number + 1) steps) read_scores
       (map (at (places start (stop - start))) ns)
   one_more ns is =
-      let ps = places start (stop - start) in
-      ap (λ (ss : List Step). kept_of ss read_scores ps) (steps_split number steps)
-      ∙ kept_append (only number steps) (drop (number + 1) steps) read_scores ps
-      ∙ ap (kept_of (drop (number + 1) steps) read_scores)
-      (kept_within (only number steps) read_scores ps
-      ∙ ap (λ (xs : List ℕ). map (at ps) (kept (only number steps) xs)) (sym hand_scores)
-      ∙ ap (map (at ps)) is)
+      grind (arith, common_steps, steps_split, kept_append, kept_within, at, hand_scores)
 
   -- a step that keeps something
   pub places_kept : (k : Kept) → kept (only number steps) (scores read.encoding at_hand.qual)
@@ -250,8 +221,4 @@ module _ (steps : List Step) (read : Read) (number start stop : ℕ)
         shortened = [];
         dropped = number ∷ [];
       }
-  cut_dropped is =
-      let all = alone_length steps in
-      next_dropped number (alone steps) read.encoding at_hand.seq at_hand.qual (omega arith)
-      (ap (λ (s : List Step). kept s (scores read.encoding at_hand.qual))
-      (alone_at steps number in_steps) ∙ is)
+  cut_dropped is = grind (arith, common_steps, alone_length, next_dropped, alone_at)

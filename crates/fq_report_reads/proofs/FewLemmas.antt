@@ -2,9 +2,9 @@
 use Rattle.std.proofs.Common.{◌≡◌, ℕ, zero, suc, ◌+◌, ◌<◌, ◌≤◌, true, false, nat_le, List, [], ◌∷◌, ◌++◌, length, take, map, get_or, replicate, refl, ap, ap₂, sym, ◌∙◌, arith, eqb, max, Fits, w8, w16, subst}
 use Rattle.std.specs.List.{list_all}
 use Rattle.std.proofs.lemmas.List.{append_assoc, length-append, length-replicate, length-map, map-append, get_or_past, replicate-append-replicate, map-id, append-nil}
-use Rattle.std.proofs.lemmas.Bool.{cond-true, cond-false, and_parts, le-leb, leb-true, ne_eqb}
+use Rattle.std.proofs.lemmas.Bool.{and_parts, le-leb, leb-true, ne_eqb}
 use Rattle.fq_text.specs.declared.encoding.Encoding.{Encoding}
-use Rattle.fq_text.specs.Scores.{is_scored, value_of, lowest}
+use Rattle.fq_text.specs.Scores.{is_scored}
 use Rattle.fq_text.proofs.ScoreLemmas.{value_small, low_base}
 use Rattle.fq_trim.specs.Keeping.{scores}
 use Rattle.fq_trim.specs.Sums.{capped_sum}
@@ -14,6 +14,7 @@ use Rattle.std.proofs.lemmas.Simd.{Each1-from_get_or, Each1-chunk, Each2-of}
 use lib.Lanes.{Each1, Each2, zip2, chunk, put_chunk}
 use Rattle.fq_report_reads.specs.Counting.{AtMost, IsFew, lane_score, one_if, placed}
 use Rattle.fq_report_reads.proofs.PositionLemmas.{Small, grown_within}
+use Rattle.std.proofs.lemmas.Grind.{common_steps}
 
 -- A vector is added from a row on.
 
@@ -112,31 +113,21 @@ pub row_more : (rows len len' most more most' at n : ℕ) (xs ys : List ℕ) →
     AtMost more ys → length ys ≡ n → len ≤ len' → at + n ≤ len' → at + n ≤ rows →
     most + more ≤ most' → IsFew rows len' most' (rows_plus xs (replicate at 0 ++ ys))
 row_more rows len len' most more most' at n xs ys few small long order within room bound =
-    let zs : List ℕ = replicate at 0 ++ ys in
-    let size = few.size in
-    let long_zs = length-shifted at ys in
-    let sum = λ (k : ℕ). plus_at_most xs zs k in
-    record {
-      size = omega (arith, length-rows_plus xs zs);
-      behind = λ k from.
-          let left = few.behind k (omega arith) in
-          let right = get_or_past zs k 0 (omega arith) in
-          let both = sum k in
-          omega arith;
-      small = λ k.
-          let left = few.small k in
-          let right = shifted_at_most at more ys small k in
-          let both = sum k in
-          omega arith;
-    }
+    grind (
+      arith,
+      common_steps,
+      length-shifted,
+      plus_at_most,
+      length-rows_plus,
+      get_or_past,
+      shifted_at_most,
+    )
 
 -- the rows that are reached, of a sum
 cut_plus : (xs zs : List ℕ) (len len' : ℕ) → ((k : ℕ) → len ≤ k → get_or xs k 0 ≡ 0) → Small zs →
     len' ≡ max len (length zs) → len' ≤ length xs →
     take len' (rows_plus xs zs) ≡ rows_plus (take len xs) zs
-cut_plus xs [] len len' behind small is room =
-    let same : len' ≡ len = omega arith in
-    ap (take len') (plus_none xs) ∙ ap (λ n. take n xs) same ∙ sym (plus_none (take len xs))
+cut_plus xs [] len len' behind small is room = grind (arith, common_steps, plus_none)
 cut_plus [] (z ∷ zs) len len' behind small is room = absurd (omega arith)
 cut_plus (x ∷ xs) (z ∷ zs) len zero behind small is room = absurd (omega arith)
 cut_plus (x ∷ xs) (z ∷ zs) zero (suc len') behind small is room =
@@ -154,12 +145,7 @@ pub row_cut : (rows len len' most more at n : ℕ) (xs ys : List ℕ) → IsFew 
     AtMost more ys → length ys ≡ n → more ≤ 255 → len' ≡ max len (at + n) → len' ≤ rows →
     take len' (rows_plus xs (replicate at 0 ++ ys)) ≡ rows_plus (take len xs) (replicate at 0 ++ ys)
 row_cut rows len len' most more at n xs ys few small long bound is room =
-    let zs : List ℕ = replicate at 0 ++ ys in
-    let size = few.size in
-    let long_zs = length-shifted at ys in
-    let most_zs = shifted_at_most at more ys small in
-    cut_plus xs zs len len' few.behind (λ k. let one = most_zs k in
-    omega arith) (omega arith) (omega arith)
+    grind (arith, common_steps, length-shifted, shifted_at_most, cut_plus)
 
 -- zeros after a vector change nothing
 plus_zeros_behind : (xs ys : List ℕ) (k : ℕ) → Small xs → length ys + k ≤ length xs →
@@ -175,16 +161,10 @@ plus_zeros_behind (x ∷ xs) (y ∷ ys) k small room =
 -- up to position 10,000, numbers by position are the numbers at their places
 pub placed_short : (at : ℕ) (ns : List ℕ) → at + length ns ≤ 10000 →
     placed at ns ≡ replicate at 0 ++ ns
-placed_short at ns short =
-    cond-true (nat_le (length (replicate at 0 ++ ns)) 10000) _ _
-    (le-leb (length (replicate at 0 ++ ns)) 10000 (omega (arith, length-shifted at ns)))
+placed_short at ns short = grind (arith, common_steps, le-leb, length-shifted)
 
 scored_low : (e : Encoding) (b : ℕ) → is_scored e b ≡ true → 33 ≤ b
-scored_low e b is =
-    let low = low_base e in
-    let least : lowest e ≤ b =
-    leb-true (lowest e) b (and_parts (nat_le (lowest e) b) (nat_le b 126) is).0 in
-    omega arith
+scored_low e b is = grind (arith, common_steps, low_base, leb-true, and_parts)
 
 not_none : (e : Encoding) (b : ℕ) → is_scored e b ≡ true → eqb b 0 ≡ false
 not_none e b is = let low = scored_low e b is in ne_eqb b 0 (λ z. omega arith)
@@ -193,10 +173,7 @@ not_none e b is = let low = scored_low e b is in ne_eqb b 0 (λ z. omega arith)
 pub lanes_scores : (e : Encoding) (q : List ℕ) → list_all (is_scored e) q ≡ true →
     map (lane_score e) q ≡ scores e q
 lanes_scores e [] all = refl
-lanes_scores e (b ∷ bs) all =
-    let parts = and_parts (is_scored e b) (list_all (is_scored e) bs) all in
-    ap₂ (λ n ns. n ∷ ns) (cond-false (eqb b 0) 0 (value_of e b) (not_none e b parts.0))
-    (lanes_scores e bs parts.1)
+lanes_scores e (b ∷ bs) all = grind (arith, common_steps, and_parts, not_none, lanes_scores e bs)
 
 -- lanes with a base each count 1 for each
 pub lanes_bases : (e : Encoding) (q s : List ℕ) → list_all (is_scored e) q ≡ true →
@@ -205,10 +182,7 @@ lanes_bases e [] [] all same = refl
 lanes_bases e [] (c ∷ s) all same = absurd (omega arith)
 lanes_bases e (b ∷ q) [] all same = absurd (omega arith)
 lanes_bases e (b ∷ q) (c ∷ s) all same =
-    let parts = and_parts (is_scored e b) (list_all (is_scored e) q) all in
-    let low = scored_low e b parts.0 in
-    ap₂ (λ n ns. n ∷ ns) (cond-true (nat_le 1 b) 1 0 (le-leb 1 b (omega arith)))
-    (lanes_bases e q s parts.1 (omega arith))
+    grind (arith, common_steps, and_parts, scored_low, le-leb, lanes_bases e q s)
 
 -- of lanes without a base nothing is counted
 pub zeros_mapped : (f : ℕ → ℕ) → f 0 ≡ 0 → (k : ℕ) → map f (replicate k 0) ≡ replicate k 0
@@ -249,11 +223,7 @@ mapped_at_most f most small (x ∷ xs) (suc k) = mapped_at_most f most small xs 
 pub scores_at_most : (e : Encoding) (q : List ℕ) → list_all (is_scored e) q ≡ true →
     AtMost 93 (map (lane_score e) q)
 scores_at_most e [] all k = let least : 0 ≤ 93 = omega arith in least
-scores_at_most e (b ∷ bs) all zero =
-    let parts = and_parts (is_scored e b) (list_all (is_scored e) bs) all in
-    let same = cond-false (eqb b 0) 0 (value_of e b) (not_none e b parts.0) in
-    let small = value_small e b parts.0 in
-    let most : lane_score e b ≤ 93 = omega arith in most
+scores_at_most e (b ∷ bs) all zero = grind (arith, common_steps, and_parts, not_none, value_small)
 scores_at_most e (b ∷ bs) all (suc k) = scores_at_most e bs
     (and_parts (is_scored e b) (list_all (is_scored e) bs) all).1 k
 
@@ -270,6 +240,4 @@ row_weaker rows rows' len len' most most' xs few less order bound = record {
 pub row_nothing : (rows len most at : ℕ) (xs : List ℕ) → IsFew rows len most xs → most ≤ 65535 →
     at ≤ rows → xs ≡ rows_plus xs (replicate at 0 ++ [])
 row_nothing rows len most at xs few bound within =
-    let size = few.size in
-    let small : Small xs = λ k. let one = few.small k in omega arith in
-    grown_within xs at small (omega arith) ∙ ap (rows_plus xs) (sym (append-nil (replicate at 0)))
+    grind (arith, common_steps, grown_within, append-nil)

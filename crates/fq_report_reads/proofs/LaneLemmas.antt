@@ -1,5 +1,5 @@
 -- Bases that are counted by vectors, one after the other.
-use Rattle.std.proofs.Common.{◌≡◌, ℕ, zero, suc, ◌+◌, ◌<◌, ◌≤◌, Bool, true, false, List, [], ◌∷◌, ◌++◌, length, take, drop, map, set, get_or, replicate, refl, ap, ap₂, sym, ◌∙◌, arith, eqb, max, subst, ◌-◌, ◌||◌, take-add}
+use Rattle.std.proofs.Common.{◌≡◌, ℕ, zero, suc, ◌+◌, ◌<◌, ◌≤◌, Bool, true, false, List, [], ◌∷◌, ◌++◌, length, take, drop, map, set, get_or, replicate, refl, ap, ap₂, sym, ◌∙◌, arith, max, ◌-◌, ◌||◌, take-add, subst}
 use Rattle.std.specs.List.{list_all}
 use Rattle.std.proofs.lemmas.List.{append_assoc, length-take-le, length-map, take-append-drop, take_all, length-drop, drop-drop, drop_more, get_or_at, set_at, map_more}
 use Rattle.std.proofs.lemmas.List.Folds.{list_all-append}
@@ -14,6 +14,7 @@ use lib.Lanes.{chunk}
 use Rattle.fq_report_reads.specs.Counting.{is_lane, most_reads}
 use Rattle.fq_report_reads.specs.Columns.{AreFew, HoldsFew, columns_from, columns_plus, first_rows, lanes_at}
 use Rattle.fq_report_reads.proofs.ColumnLemmas.{columns_assoc, columns_joined, few_weaker, lanes_are_columns, lanes_behind, lanes_cut, lanes_more, lanes_moved, lanes_nothing}
+use Rattle.std.proofs.lemmas.Grind.{common_steps}
 
 -- Lanes that hold scored bytes, and zeros beside them.
 
@@ -26,8 +27,7 @@ pub scored_lanes : (e : Encoding) (q : List ℕ) → list_all (is_scored e) q �
     list_all (is_lane e) q ≡ true
 scored_lanes e [] all = refl
 scored_lanes e (b ∷ bs) all =
-    let parts = and_parts (is_scored e b) (list_all (is_scored e) bs) all in
-    and_from _ _ (or_true (eqb b 0) (is_scored e b) parts.0) (scored_lanes e bs parts.1)
+    grind (arith, common_steps, and_parts, and_from, or_true, scored_lanes e bs)
 
 -- zeros, and then bytes that have scores, are valid lanes
 pub lanes_in_front : (e : Encoding) (k : ℕ) (q : List ℕ) → list_all (is_scored e) q ≡ true →
@@ -138,17 +138,7 @@ pub rest_in_last : (old new : Columns) (at from start k : ℕ) (e : Encoding)
     new ≡ columns_plus old (lanes_at (at + start) e bases bytes) →
     new ≡ columns_plus old (columns_from (at + from) e (drop from seq) (drop from qual))
 rest_in_last old new at from start k e seq qual bases bytes place s q same near within scored here =
-    let ls = length-drop from seq in
-    let lq = length-drop from qual in
-    here
-    ∙ ap₂ (λ x y. columns_plus old (lanes_at (at + start) e x y)) s q
-    ∙ ap (columns_plus old) (lanes_moved (at + start) k e (drop k (drop start seq)) (drop k
-    (drop start qual)))
-    ∙ ap₂ (λ x y. columns_plus old (lanes_at (at + start + k) e x y)) (drop-drop k start seq
-    ∙ ap (λ n. drop n seq) place) (drop-drop k start qual ∙ ap (λ n. drop n qual) place)
-    ∙ ap (λ n. columns_plus old (lanes_at n e (drop from seq) (drop from qual))) (omega arith)
-    ∙ ap (columns_plus old) (lanes_are_columns (at + from) e (drop from seq) (drop from qual)
-    (all_dropped (is_scored e) qual from scored) (omega arith) (omega arith))
+    grind (arith, length-drop, lanes_moved, drop-drop, lanes_are_columns, all_dropped)
 
 -- the last bases of a read are counted from the first lanes of a vector, with zeros after them
 pub rest_in_first : (old new : Columns) (rows at from k m : ℕ) (e : Encoding)
@@ -208,17 +198,11 @@ module _ (at : ℕ) (e : Encoding) (seq qual : List ℕ) {x y : Columns}
 
   -- if there is room for a further read, these are again a few
   pub read_held : reads + 1 < most_reads → HoldsFew last reached' (reads + 1) y
-  read_held more =
-      let within = holds.within in
-      record { few = read_few; within = omega arith; near = holds.near; room = more }
+  read_held more = grind (arith, common_steps, read_few)
 
   -- the rows that were reached are such as the most reads that a counter holds can give
   pub read_full : AreFew reached' reached' most_reads y
-  read_full =
-      let within = holds.within in
-      let room = holds.room in
-      few_weaker y (last + 32) reached' reached' reached' (reads + 1) most_reads read_few
-      (omega arith) (omega arith) (omega arith)
+  read_full = grind (arith, few_weaker, read_few)
 
   -- after all were moved, the counter holds none
   pub read_moved : (z : Columns) →
@@ -239,16 +223,14 @@ pub converted_next : (f : ℕ → ℕ) (bytes scores : List ℕ) (i r : ℕ) →
     scores ≡ map f (take i bytes) ++ drop i bytes → i < length bytes → r ≡ f (get_or scores i 0) →
     set scores i r ≡ map f (take (i + 1) bytes) ++ drop (i + 1) bytes
 converted_next f bytes scores i r so_far within here =
-    let front : List ℕ = map f (take i bytes) in
-    let rest : List ℕ = drop (i + 1) bytes in
-    let b = get_or bytes i 0 in
-    let size : length front ≡ i = length-map (take i bytes) f
-    ∙ length-take-le i bytes (omega arith) in
-    let parts : scores ≡ front ++ (b ∷ rest) = so_far
-    ∙ ap (λ xs. front ++ xs) (drop_more bytes i 0 within) in
-    let value : r ≡ f b = here ∙ ap (λ xs. f (get_or xs i 0)) parts
-    ∙ ap f (get_or_at front b rest 0 i size) in
-    ap₂ (λ xs x. set xs i x) parts value
-    ∙ set_at front b rest (f b) i size
-    ∙ sym (append_assoc front (f b ∷ []) rest)
-    ∙ ap (λ xs. xs ++ rest) (sym (map_more f bytes i 0 within))
+    grind (
+      arith,
+      common_steps,
+      length-map,
+      length-take-le,
+      drop_more,
+      get_or_at,
+      set_at,
+      append_assoc,
+      map_more,
+    )

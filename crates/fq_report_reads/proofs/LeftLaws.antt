@@ -1,7 +1,7 @@
 -- Lists of steps, taken in turn and as one list.
-use Rattle.std.proofs.Common.{◌≡◌, ℕ, zero, suc, ◌<◌, Bool, not, List, [], ◌∷◌, ◌++◌, length, get_or, map, refl, ap, sym, subst, ◌∙◌, arith, ⊎_elim}
+use Rattle.std.proofs.Common.{◌≡◌, ℕ, zero, suc, ◌<◌, Bool, not, List, [], ◌∷◌, ◌++◌, length, get_or, map, refl, ap, sym, subst, ◌∙◌, arith}
 use Rattle.std.proofs.lemmas.List.{take_all, length-map}
-use Rattle.std.proofs.lemmas.Bool.{cond-true, cond-false, cases_Bool}
+use Rattle.std.proofs.lemmas.Bool.{cases_Bool}
 use Rattle.fq_text.specs.Scores.{value_of}
 use Rattle.fq_text.specs.Grammar.{Read}
 use Rattle.fq_trim.specs.declared.step.Step.{Step}
@@ -11,6 +11,7 @@ use Rattle.fq_trim.specs.KeptPlaces.{is_empty, kept_places}
 use Rattle.fq_trim.proofs.PlaceLemmas.{scores_at}
 use Rattle.fq_trim.proofs.KeptLemmas.{Below, select_below, kept_below, places_below}
 use Rattle.fq_report_reads.specs.Courses.{Part, alone, one_list, part_at, whole, Course, after, course_of, course, survives}
+use Rattle.std.proofs.lemmas.Grind.{common_steps}
 
 -- steps, each in a list of its own, are the same steps as one list
 pub alone_are_all : (steps : List Step) → one_list (alone steps) ≡ steps
@@ -30,23 +31,12 @@ got f (x ∷ xs) (suc i) lt = got f xs i (omega arith)
 map_at : (f : ℕ → ℕ) (xs is : List ℕ) → Below (length xs) is →
     map f (map (at xs) is) ≡ map (at (map f xs)) is
 map_at f xs [] below = refl
-map_at f xs (i ∷ is) below =
-    ap (λ n. n ∷ map f (map (at xs) is)) (sym (got f xs i below.0))
-    ∙ ap (λ ns. at (map f xs) i ∷ ns) (map_at f xs is below.1)
+map_at f xs (i ∷ is) below = grind (arith, common_steps, got, map_at f xs is)
 
 select_map : (test : ℕ → Bool) (j : ℕ) (f : ℕ → ℕ) (is : List ℕ) →
     select test j (map f is) ≡ map f (select test j is)
 select_map test j f [] = refl
-select_map test j f (i ∷ is) =
-    let rest = select_map test (suc j) f is in
-    ⊎_elim
-    (λ yes. cond-true (test j) _ _ yes ∙ ap (λ ns. f i ∷ ns) rest
-    ∙ ap (map f) (sym (cond-true (test j) (i ∷ select test (suc j) is) (select test (suc j) is)
-    yes)))
-    (λ no. cond-false (test j) _ _ no ∙ rest
-    ∙ ap (map f) (sym (cond-false (test j) (i ∷ select test (suc j) is) (select test (suc j) is)
-    no)))
-    (cases_Bool (test j))
+select_map test j f (i ∷ is) = grind (arith, common_steps, cases_Bool, select_map test (suc j) f is)
 
 all_places : (xs : List ℕ) (n : ℕ) → n ≡ length xs → map (at xs) (places 0 n) ≡ xs
 all_places xs n is = scores_at xs 0 n (omega arith) ∙ take_all n xs (omega arith)
@@ -87,9 +77,7 @@ kept_none (step ∷ steps) q = kept_none steps q
 -- a part of a part
 part_of_part : (p : Part) (ps is : List ℕ) → Below (length ps) is →
     part_at is (part_at ps p) ≡ part_at (map (at ps) is) p
-part_of_part p ps is below =
-    let seq = map_at (at p.seq) ps is below in
-    let qual = map_at (at p.qual) ps is below in cc
+part_of_part p ps is below = grind (arith, common_steps, map_at)
 
 left_after : (n : ℕ) (ps : List ℕ) (p : Part) (c : Course) (r : List ℕ → Part) → c.left ≡ r ps →
     r [] ≡ part_at [] p → (after n ps p c).left ≡ r ps
@@ -99,13 +87,7 @@ left_after n (a ∷ ps) p c r left none = left
 -- what lists of steps leave of a part in turn is what they leave of it as one list
 pub left_in_turn : (lists : List (List Step)) (n : ℕ) (p : Part) → length p.qual ≡ length p.seq →
     (course_of n lists p).left ≡ part_at (kept (one_list lists) (scores p.encoding p.qual)) p
-left_in_turn [] n p same =
-    let e = p.encoding in
-    let size = length-map p.qual (value_of e) in
-    let seq = all_places p.seq (length (scores e p.qual)) (omega arith) in
-    let qual = all_places p.qual (length (scores e p.qual)) (omega arith) in
-    let is : record { encoding = p.encoding; seq = p.seq; qual = p.qual }
-    ≡ part_at (kept [] (scores e p.qual)) p = cc in is
+left_in_turn [] n p same = grind (arith, common_steps, length-map, all_places)
 left_in_turn (steps ∷ lists) n p same =
     let e = p.encoding in
     let q = scores e p.qual in
@@ -142,9 +124,7 @@ not_empty f (x ∷ xs) = refl
 pub survives_in_turn : (lists : List (List Step)) (read : Read) →
     length read.qual ≡ length read.seq → survives (course lists read).left ≡ of_steps.survives
     (one_list lists) read
-survives_in_turn lists read same =
-    ap survives (left_in_turn lists 0 (whole read) same)
-    ∙ ap not (not_empty (at read.seq) (kept_places (one_list lists) read))
+survives_in_turn lists read same = grind (arith, common_steps, left_in_turn, not_empty)
 
 -- the same of steps, each in a list of its own
 pub left_as_kept : (steps : List Step) (read : Read) → length read.qual ≡ length read.seq →

@@ -1,22 +1,24 @@
 -- Rows of bases by position, and their sums, in one column.
-use Rattle.std.proofs.Common.{◌≡◌, ℕ, zero, suc, ◌+◌, ◌*◌, ◌<◌, ◌≤◌, Bool, true, false, cond, nat_le, List, [], ◌∷◌, ◌++◌, length, take, drop, map, set, get_or, replicate, sum, min, refl, ap, ap₂, sym, ◌∙◌, arith, ⊎_elim}
+use Rattle.std.proofs.Common.{◌≡◌, ℕ, zero, suc, ◌+◌, ◌*◌, ◌<◌, ◌≤◌, Bool, true, false, cond, nat_le, List, [], ◌∷◌, ◌++◌, length, take, drop, map, set, get_or, replicate, sum, min, refl, ap, ap₂, sym, ◌∙◌, arith}
 use Rattle.std.specs.List.{list_all}
 use Rattle.std.proofs.lemmas.List.{append_assoc, length-append, length-replicate, length-map, map-append}
 use Rattle.std.proofs.lemmas.List.Sums.{sum_by-cons, sum_by-append}
 use Rattle.std.proofs.lemmas.List.Folds.{sum_by-replicate}
-use Rattle.std.proofs.lemmas.Bool.{cond-true, cond-false, cases_lt, and_parts, le-leb, lt-leb}
+use Rattle.std.proofs.lemmas.Bool.{cases_lt, and_parts, le-leb, lt-leb}
 use Rattle.fq_text.specs.declared.encoding.Encoding.{Encoding}
-use Rattle.fq_text.specs.Scores.{is_scored, value_of}
+use Rattle.fq_text.specs.Scores.{is_scored}
 use Rattle.fq_text.proofs.ScoreLemmas.{value_small}
 use Rattle.fq_trim.specs.Keeping.{scores}
 use Rattle.fq_trim.specs.Sums.{capped_sum}
 use Rattle.fq_report_reads.specs.Rows.{rows_plus}
 use Rattle.fq_report_reads.proofs.RowLemmas.{plus_none}
 use Rattle.fq_report_reads.specs.Counting.{by_position, one_if, placed}
+use Rattle.std.proofs.lemmas.Grind.{common_steps}
 
 -- Sums of rows.
 
-capped_assoc : (a b c : ℕ) → capped_sum (capped_sum a b) c ≡ capped_sum a (capped_sum b c)
+-- of three counts, it makes no difference which two are added first
+pub capped_assoc : (a b c : ℕ) → capped_sum (capped_sum a b) c ≡ capped_sum a (capped_sum b c)
 capped_assoc a b c = omega arith
 
 -- of three lists of rows, it makes no difference which two are added first
@@ -97,12 +99,7 @@ cut_long (suc most) (n ∷ ns) long = ap (λ ms. n ∷ ms) (cut_long most ns (om
 
 cut_is : (most : ℕ) (ns : List ℕ) → cond (nat_le (length ns) most) ns
     (take most ns ++ (sum (drop most ns) ∷ [])) ≡ cut_at most ns
-cut_is most ns = ⊎_elim
-    (λ (long : most < length ns). cond-false (nat_le (length ns) most) _ _
-    (lt-leb (length ns) most long) ∙ cut_long most ns long)
-    (λ (short : length ns ≤ most). cond-true (nat_le (length ns) most) _ _
-    (le-leb (length ns) most short) ∙ cut_short most ns short)
-    (cases_lt most (length ns))
+cut_is most ns = grind (arith, common_steps, lt-leb, cut_long, le-leb, cut_short, cases_lt)
 
 -- no number of a list is above its sum
 abbrev Bounded : List ℕ → Type 0
@@ -122,16 +119,9 @@ cut_joined : (most : ℕ) (us vs : List ℕ) → Bounded (us ++ vs) →
     ≡ cut_at most (us ++ vs)
 unfolding cut_at
 cut_joined most [] vs small = refl
-cut_joined zero (u ∷ us) vs small =
-    let left = sum-cons u us in
-    let right : sum (0 ∷ (replicate (length us) 0 ++ vs)) ≡ sum vs =
-    sum-cons 0 (replicate (length us) 0 ++ vs)
-    ∙ omega (arith, sum-append (replicate (length us) 0) vs, sum-zeros (length us)) in
-    let whole = sum-append (u ∷ us) vs in
-    ap (λ n. n ∷ []) (omega arith)
+cut_joined zero (u ∷ us) vs small = grind (arith, common_steps, sum-cons, sum-append, sum-zeros)
 cut_joined (suc most) (u ∷ us) vs small =
-    let whole = sum-cons u (us ++ vs) in
-    ap₂ (λ n ns. n ∷ ns) (none_more u (omega arith)) (cut_joined most us vs (omega arith))
+    grind (arith, common_steps, sum-cons, none_more, cut_joined most us vs)
 
 -- numbers by position, added to those after them at their own positions, are all by position
 pub joined : (us vs : List ℕ) → sum us + sum vs ≤ 18446744073709551615 →
@@ -159,11 +149,7 @@ placed_joined at k us vs behind small =
 cut_none : (most at : ℕ) → cut_at most (replicate at 0 ++ []) ≡ replicate (min at (suc most)) 0
 unfolding cut_at
 cut_none most zero = let none : 0 ≡ min 0 (suc most) = omega arith in ap (λ n. replicate n 0) none
-cut_none zero (suc at) =
-    let e : sum (0 ∷ (replicate at 0 ++ [])) ≡ 0 = sum-cons 0 (replicate at 0 ++ [])
-    ∙ omega (arith, sum-append (replicate at 0) [], sum-zeros at) in
-    let f : 1 ≡ min (suc at) 1 = omega arith in
-    ap (λ n. n ∷ []) e ∙ ap (λ n. replicate n 0) f
+cut_none zero (suc at) = grind (arith, common_steps, sum-cons, sum-append, sum-zeros)
 cut_none (suc most) (suc at) =
     let f : suc (min at (suc most)) ≡ min (suc at) (suc (suc most)) = omega arith in
     ap (λ ns. 0 ∷ ns) (cut_none most at) ∙ ap (λ n. replicate n 0) f
@@ -176,19 +162,10 @@ placed_none at rows is = ap (λ n. replicate n 0) is ∙ sym (cut_none 10000 at)
 cut_one : (most at a : ℕ) → cut_at most (replicate at 0 ++ (a ∷ [])) ≡ replicate (min at most)
     0 ++ (a ∷ [])
 unfolding cut_at
-cut_one zero zero a =
-    let one = sum-cons a [] in
-    let e : sum (a ∷ []) ≡ a = omega arith in
-    let f : 0 ≡ min 0 0 = omega arith in
-    ap (λ n. n ∷ []) e ∙ ap (λ n. replicate n 0 ++ (a ∷ [])) f
+cut_one zero zero a = grind (arith, common_steps, sum-cons)
 cut_one (suc most) zero a = let f : 0 ≡ min 0 (suc most) = omega arith in
     ap (λ n. replicate n 0 ++ (a ∷ [])) f
-cut_one zero (suc at) a =
-    let one = sum-cons a [] in
-    let e : sum (0 ∷ (replicate at 0 ++ (a ∷ []))) ≡ a = sum-cons 0 (replicate at 0 ++ (a ∷ []))
-    ∙ omega (arith, sum-append (replicate at 0) (a ∷ []), sum-zeros at) in
-    let f : 0 ≡ min (suc at) 0 = omega arith in
-    ap (λ n. n ∷ []) e ∙ ap (λ n. replicate n 0 ++ (a ∷ [])) f
+cut_one zero (suc at) a = grind (arith, common_steps, sum-cons, sum-append, sum-zeros)
 cut_one (suc most) (suc at) a =
     let f : suc (min at most) ≡ min (suc at) (suc most) = omega arith in
     ap (λ ns. 0 ∷ ns) (cut_one most at a) ∙ ap (λ n. replicate n 0 ++ (a ∷ [])) f
@@ -219,22 +196,11 @@ pub ones_joined : (f : ℕ → ℕ) → ((x : ℕ) → f x ≤ 1) → (at k : �
     k ≡ at + length xs → length xs ≤ 1048576 → length ys ≤ 1048576 →
     rows_plus (placed at (map f xs)) (placed k (map f ys)) ≡ placed at (map f (xs ++ ys))
 ones_joined f small at k xs ys behind few less =
-    let left = ones_small f small xs in
-    let right = ones_small f small ys in
-    let long : k ≡ at + length (map f xs) = omega (arith, length-map xs f) in
-    placed_joined at k (map f xs) (map f ys) long (omega arith)
-    ∙ ap (placed at) (sym (map-append f xs ys))
+    grind (arith, ones_small, length-map, placed_joined, map-append)
 
 -- no score is above 93, so their sum is at most 93 for each base
 pub scores_small : (e : Encoding) (qual : List ℕ) → list_all (is_scored e) qual ≡ true →
     sum (scores e qual) ≤ 93 * length qual
 scores_small e [] all = omega arith
 scores_small e (b ∷ bs) all =
-    let parts = and_parts (is_scored e b) (list_all (is_scored e) bs) all in
-    omega (
-      arith,
-      sum-cons (value_of e b) (scores e bs),
-      value_small e b parts.0,
-      scores_small e bs
-          parts.1,
-    )
+    grind (arith, common_steps, and_parts, sum-cons, value_small, scores_small e bs)

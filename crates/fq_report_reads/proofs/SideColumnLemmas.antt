@@ -1,5 +1,5 @@
 -- The bases of a side by their position, as they are counted once each.
-use Rattle.std.proofs.Common.{◌≡◌, ℕ, ◌+◌, ◌-◌, ◌≤◌, Bool, true, false, cond, Some, List, ◌++◌, length, take, drop, refl, ap, ap₂, sym, ◌∙◌, arith}
+use Rattle.std.proofs.Common.{◌≡◌, ℕ, ◌+◌, ◌-◌, ◌≤◌, Bool, true, false, Some, List, ◌++◌, length, take, drop, refl, ap, ap₂, sym, ◌∙◌, arith}
 use Rattle.std.specs.List.{list_all}
 use Rattle.std.proofs.lemmas.List.{take_all, take_rest, take-append-drop, length-drop, length-take-le}
 use Rattle.fq_text.specs.declared.encoding.Encoding.{Encoding}
@@ -12,12 +12,12 @@ use Rattle.fq_report_reads.specs.declared.columns.Columns.{Columns}
 use Rattle.fq_report_reads.specs.declared.side_positions.SidePositions.TheInside.{Inside}
 use Rattle.fq_report_reads.specs.Courses.{part_at, whole}
 use Rattle.fq_report_reads.specs.Columns.{no_columns, columns_from, columns_of, columns_plus}
-use Rattle.fq_report_reads.proofs.ColumnLemmas.{columns_assoc, columns_joined}
+use Rattle.fq_report_reads.proofs.ColumnLemmas.{columns_assoc, columns_four, columns_joined, columns_swap}
 use Rattle.fq_report_reads.specs.Parts.{AreBases}
 use Rattle.fq_report_reads.specs.SideColumns.{SideColumns, with_before, with_after, with_columns, side_columns_plus}
 use Rattle.fq_report_reads.proofs.CourseLemmas.{part}
-use Rattle.fq_report_reads.proofs.SideColumnSums.{columns_swap, columns_four}
 use Rattle.fq_report_reads.proofs.SideLemmas.{kept_is_left, kept_part}
+use Rattle.std.proofs.lemmas.Grind.{common_steps}
 
 -- the columns of a side, from the five that are counted
 abbrev pub side_of : Columns → Columns → Columns → Columns → Columns → SideColumns
@@ -59,21 +59,13 @@ module _ (p : Inside) (x : Columns) {y now : Columns} {t : SideColumns} (view : 
     pub paired_moved_more : y ≡ p.paired_moved.value → survives ≡ true →
         side_of p.paired.value p.unpaired.value p.rest.value now p.unpaired_moved.value
         ≡ with_after x survives t
-    paired_moved_more was is =
-        ap (λ z. side_of p.paired.value p.unpaired.value p.rest.value z p.unpaired_moved.value)
-        (counted was)
-        ∙ three_are refl (sym (columns_assoc p.paired.value p.paired_moved.value x)) refl
-        ∙ ap₂ (with_after x) (sym is) view
+    paired_moved_more was is = grind (arith, common_steps, counted, three_are, columns_assoc)
 
     -- bases counted as moved and unpaired are left of a read that survives alone
     pub unpaired_moved_more : y ≡ p.unpaired_moved.value → survives ≡ false →
         side_of p.paired.value p.unpaired.value p.rest.value p.paired_moved.value now
         ≡ with_after x survives t
-    unpaired_moved_more was is =
-        ap (side_of p.paired.value p.unpaired.value p.rest.value p.paired_moved.value)
-        (counted was)
-        ∙ three_are refl refl (sym (columns_assoc p.unpaired.value p.unpaired_moved.value x))
-        ∙ ap₂ (with_after x) (sym is) view
+    unpaired_moved_more was is = grind (arith, common_steps, counted, three_are, columns_assoc)
 
     -- bases counted as paired are counted both as they were read and as left with a mate
     pub paired_more : y ≡ p.paired.value → survives ≡ true →
@@ -105,10 +97,7 @@ module _ (p : Inside) (x : Columns) {y now : Columns} {t : SideColumns} (view : 
 pub both_added : {none first both x y a b : Columns} → none ≡ no_columns →
     first ≡ columns_plus none x → x ≡ a → both ≡ columns_plus first y → y ≡ b →
     both ≡ columns_plus a b
-both_added {x = x} {y = y} {a = a} none_is first_is x_is both_is y_is =
-    both_is
-    ∙ ap (λ z. columns_plus z y) (first_is ∙ ap (λ z. columns_plus z x) none_is ∙ x_is)
-    ∙ ap (columns_plus a) y_is
+both_added {x = x} {y = y} {a = a} none_is first_is x_is both_is y_is = grind (arith, common_steps)
 
 -- sides added up
 pub side_of_both : (p u r v w p' u' r' v' w' : Columns) →
@@ -127,19 +116,14 @@ pub in_place : (x rest all : Columns) (mate_survives : Bool) (t : SideColumns) �
     with_before x (with_after x mate_survives (with_before rest t))
     ≡ with_before all (with_after x mate_survives t)
 in_place x rest all mate_survives t is =
-    let before : columns_plus (columns_plus t.before rest) x ≡ columns_plus t.before all =
-    columns_swap t.before rest x ∙ columns_assoc t.before x rest ∙ ap (columns_plus t.before) is in
-    three_are before refl refl
+    grind (arith, common_steps, columns_swap, columns_assoc, three_are)
 
 -- a read of which bases are kept
 survivor_columns : (read : Read) (k : Kept) (mate_survives : Bool) (t : SideColumns) →
     with_columns read (part_at (places_of (Some k)) (whole read)) mate_survives t
     ≡ with_before (columns_of (whole read))
     (with_after (columns_of (part_at (places_of (Some k)) (whole read))) mate_survives t)
-survivor_columns read k mate_survives t =
-    let left = part_at (places_of (Some k)) (whole read) in
-    ap (λ (b : Bool). with_before (columns_of (whole read))
-    (cond b (with_after (columns_of left) mate_survives t) t)) (kept_is_left read k)
+survivor_columns read k mate_survives t = grind (arith, common_steps, kept_is_left)
 
 -- all bases of a read, and those that are left, are what is counted of it
 pub left_counted : (read : Read) (k : Kept) (mate_survives : Bool) (t : SideColumns) (e : Encoding)
@@ -201,16 +185,7 @@ pub all_columns : (read : Read) (k : Kept) (e : Encoding) (seq qual : List ℕ) 
     columns_from 0 e (take (k.stop - k.start) (drop k.start seq))
     (take (k.stop - k.start) (drop k.start qual)) ≡ columns_of (whole read)
 all_columns read k e seq qual e_is seq_is qual_is all same start =
-    let seq_len = ap length seq_is in
-    let qual_len = ap length qual_is in
-    let size : k.stop - k.start ≡ k.stop = omega arith in
-    let read_is : part e seq qual ≡ whole read = cc in
-    ap (λ (n : ℕ). columns_from 0 e (take n (drop k.start seq)) (take n (drop k.start qual))) size
-    ∙ ap (λ (n : ℕ). columns_from 0 e (take k.stop (drop n seq)) (take k.stop (drop n qual))) start
-    ∙ ap (λ (xs : List ℕ). columns_from 0 e xs (take k.stop qual))
-    (take_all k.stop seq (omega arith))
-    ∙ ap (columns_from 0 e seq) (take_all k.stop qual (omega arith))
-    ∙ ap columns_of read_is
+    grind (arith, common_steps, part, take_all)
 
 -- The bases of a read between two places.
 pub between_are_bases : (read : Read) (e : Encoding) (seq qual : List ℕ) (from n at : ℕ) →
@@ -218,21 +193,7 @@ pub between_are_bases : (read : Read) (e : Encoding) (seq qual : List ℕ) (from
     from + n ≤ length read.seq → at ≤ from →
     AreBases e (take n (drop from seq)) (take n (drop from qual)) at
 between_are_bases read e seq qual from n at lawful e_is seq_is qual_is within order =
-    let seq_len = ap length seq_is in
-    let qual_len = ap length qual_is in
-    let same = lawful.same_len in
-    let fits = lawful.seq_fits in
-    let seq_rest = length-drop from seq in
-    let qual_rest = length-drop from qual in
-    let seq_size = length-take-le n (drop from seq) (omega arith) in
-    let qual_size = length-take-le n (drop from qual) (omega arith) in
-    let scored : list_all (is_scored e) qual ≡ true = rw (e_is, qual_is) lawful.scores in
-    record {
-      few = omega arith;
-      scored =
-          all_taken (is_scored e) (drop from qual) n (all_dropped (is_scored e) qual from scored);
-      same = omega arith;
-    }
+    grind (arith, common_steps, length-drop, length-take-le, all_taken, all_dropped)
 
 -- what is kept of a read
 pub kept_are_bases : (read : Read) (k : Kept) (e : Encoding) (seq qual : List ℕ) →
@@ -241,6 +202,4 @@ pub kept_are_bases : (read : Read) (k : Kept) (e : Encoding) (seq qual : List �
     AreBases e (take (k.stop - k.start) (drop k.start seq))
     (take (k.stop - k.start) (drop k.start qual)) 0
 kept_are_bases read k e seq qual lawful e_is seq_is qual_is within =
-    let order = k.some in
-    between_are_bases read e seq qual k.start (k.stop - k.start) 0 lawful e_is seq_is qual_is
-    (omega arith) (omega arith)
+    grind (arith, common_steps, between_are_bases read e seq qual)

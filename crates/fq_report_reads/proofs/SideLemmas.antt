@@ -23,20 +23,13 @@ use Rattle.fq_report_reads.specs.SideColumns.{SideColumns, with_columns}
 use Rattle.fq_report_reads.specs.SideTallies.{bases_of, bases_plus, with_part, with_left}
 use Rattle.fq_report_reads.proofs.CourseLemmas.{part, cut}
 use Rattle.fq_report_reads.proofs.LeftLaws.{at, not_empty}
+use Rattle.std.proofs.lemmas.Grind.{common_steps}
 
 -- a sum over a list is that over its front, its middle and its end
 three : (f : ℕ → ℕ) (xs : List ℕ) (a b n : ℕ) → a ≤ b → n ≡ length xs →
     sum_by f (take a xs) + sum_by f (take (b - a) (drop a xs)) + sum_by f (take (n - b) (drop b xs))
     ≡ sum_by f xs
-three f xs a b n order size =
-    let first = sum_by-take-drop f xs a in
-    let next = sum_by-take-drop f (drop a xs) (b - a) in
-    let place : a + (b - a) ≡ b = omega arith in
-    let rest : sum_by f (drop (b - a) (drop a xs)) ≡ sum_by f (drop b xs) =
-    ap (sum_by f) (drop-drop (b - a) a xs ∙ ap (λ i. drop i xs) place) in
-    let last : sum_by f (take (n - b) (drop b xs)) ≡ sum_by f (drop b xs) =
-    ap (λ m. sum_by f (take (m - b) (drop b xs))) size ∙ ap (sum_by f) (take_rest xs b) in
-    omega arith
+three f xs a b n order size = grind (arith, common_steps, sum_by-take-drop, drop-drop, take_rest)
 
 -- sums of so little are exact
 exact : (front left behind all : ℕ) → front + left + behind ≡ all → all ≤ 132120576 →
@@ -83,14 +76,7 @@ module _ (e : Encoding) (seq qual : List ℕ) (a b : ℕ) (order : a ≤ b) (wit
       (nat_le least) (scores e (part_before e seq qual a).qual)))
       (count_by (nat_le least) (scores e (part_from e seq qual b).qual))
       ≡ count_by (nat_le least) (scores e qual)
-  over least =
-      let size = length-scores e qual in
-      let most = count_by-le-length (nat_le least) (scores e qual) in
-      let parts = in_scores (λ (x : ℕ). cond (nat_le least x) 1 0) in
-      exact (count_by (nat_le least) (scores e (part_before e seq qual a).qual))
-      (count_by (nat_le least) (scores e left_part.qual))
-      (count_by (nat_le least) (scores e (part_from e seq qual b).qual))
-      (count_by (nat_le least) (scores e qual)) parts (omega arith)
+  over least = grind (arith, common_steps, length-scores, count_by-le-length, in_scores, exact)
 
   -- what is counted before what is left, of it, and after it is what is counted of all
   pub counted_in_parts : list_all (is_scored e) qual ≡ true →
@@ -116,11 +102,7 @@ module _ (e : Encoding) (seq qual : List ℕ) (a b : ℕ) (order : a ≤ b) (wit
 -- the bases G or C of a read are among its bases, of which there are few
 pub few_bases : (p : Part) (b : BaseTally) → b ≡ bases_of p → length p.seq ≤ 1048576 →
     (b.bases ≤ 1048576) × (b.gc ≤ b.bases)
-few_bases p b is few =
-    let bases = ap (λ (t : BaseTally). t.bases) is in
-    let gc = ap (λ (t : BaseTally). t.gc) is in
-    let most = count_by-le-length is_gc p.seq in
-    (omega arith, omega arith)
+few_bases p b is few = grind (arith, common_steps, count_by-le-length)
 
 -- what is kept of a read, as the part between two places
 pub kept_part : (read : Read) (k : Kept) (e : Encoding) (seq qual : List ℕ) → e ≡ read.encoding →
@@ -128,16 +110,7 @@ pub kept_part : (read : Read) (k : Kept) (e : Encoding) (seq qual : List ℕ) �
     length read.qual ≡ length read.seq →
     cut k.start (k.stop - k.start) (part e seq qual) ≡ part_at (places_of (Some k)) (whole read)
 kept_part read k e seq qual e_is seq_is qual_is within same =
-    let order = k.some in
-    let s = scores_at read.seq k.start (k.stop - k.start) (omega arith) in
-    let q = scores_at read.qual k.start (k.stop - k.start) (omega arith) in
-    ap (λ (x : Encoding). cut k.start (k.stop - k.start) (part x seq qual)) e_is
-    ∙ ap (λ (xs : List ℕ). cut k.start (k.stop - k.start) (part read.encoding xs qual)) seq_is
-    ∙ ap (λ (xs : List ℕ). cut k.start (k.stop - k.start) (part read.encoding read.seq xs)) qual_is
-    ∙ ap (λ (xs : List ℕ). part read.encoding xs (take (k.stop - k.start) (drop k.start read.qual)))
-    (sym s)
-    ∙ ap (λ (xs : List ℕ). part read.encoding (part_at (places_of (Some k)) (whole read)).seq xs)
-    (sym q)
+    grind (arith, common_steps, scores_at, cut, part)
 
 -- what is left of a read has as many bases as there are places from start up to stop
 pub kept_length : (k : Kept) (p : Part) → length (part_at (places_of (Some k)) p).seq ≡ k.stop -

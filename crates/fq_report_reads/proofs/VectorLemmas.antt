@@ -1,21 +1,19 @@
 -- Bytes that are counted in a vector.
 use Rattle.std.proofs.Common.{◌≡◌, ◌≤◌, ◌+◌, ◌-◌, ◌*◌, ◌%◌, ◌^◌, Fits, w8, ℕ, zero, suc, ◌<◌, Bool, true, false, ◌||◌, eqb, cond, count_by, sum, List, [], ◌∷◌, ◌++◌, length, get_or, map, take, drop, replicate, refl, sym, ap, ap₂, ◌∙◌, arith}
 use Rattle.std.specs.List.{sum_by}
-use Rattle.std.specs.Int.Bits.{and_zero_r}
 use Rattle.std.proofs.Math.Seq.{take-add}
 use Rattle.std.proofs.lemmas.List.{drop-drop, length-map}
 use Rattle.std.proofs.lemmas.Bool.{agree_below, agree_below_at}
 use Rattle.std.proofs.lemmas.List.Sums.{sum_by-cons, sum_by-append}
 use Rattle.std.proofs.lemmas.List.Folds.{sum_by-replicate}
-use Rattle.std.proofs.lemmas.Nat.{and_mask}
 use Rattle.std.proofs.lemmas.Simd.{ones-mask_l, zip2_splat, map-map}
-use native.Mathlib.Nat.{mod-eq_of_lt}
-use lib.Bits.{bit_and, bit_or}
+use lib.Bits.{bit_or}
 use lib.Count.{ones}
 use lib.Lanes.{zip2, sel_l, mask_l, top, sum_l, Each1}
 use Rattle.fq_text.proofs.VectorLemmas.{flag, mask_of}
 use Rattle.fq_report_reads.specs.Vectors.{Holds}
 use Rattle.fq_report_reads.specs.Counting.{one_if, AtMost}
+use Rattle.std.proofs.lemmas.Grind.{common_steps}
 
 -- how many bytes pass, by the bits of their flags
 pub flags_counted : (p : ℕ → Bool) (v : List ℕ) {z : List ℕ} → length v ≤ 64 →
@@ -47,92 +45,20 @@ vector_summed [] = refl
 vector_summed (x ∷ xs) = ap (λ rest. x + rest) (vector_summed xs)
     ∙ sym (sum_by-cons (λ (y : ℕ). y) x xs)
 
--- What masks keep. If zeros follow other bytes, a vector that begins among these has the last of
--- them and the first zeros.
+-- What a vector holds, with zeros beside it.
 
-dropped : (a b m n k t : ℕ) → t ≡ k + m → drop k (replicate t a ++ replicate n b) ≡ replicate m
-    a ++ replicate n b
-dropped a b m n zero t all = ap (λ i. replicate i a ++ replicate n b) (omega arith)
-dropped a b m n (suc k) zero all = absurd (omega arith)
-dropped a b m n (suc k) (suc t) all = dropped a b m n k t (omega arith)
+zeros_count : (f : ℕ → ℕ) → f 0 ≡ 0 → (k : ℕ) → sum_by f (replicate k 0) ≡ 0
+zeros_count f nothing k = sum_by-replicate f k 0 ∙ ap (λ n. k * n) nothing ∙ omega arith
 
-taken_same : (b r t n : ℕ) → n ≡ r → r ≤ t → take n (replicate t b) ≡ replicate r b
-taken_same b zero t zero all few = refl
-taken_same b zero t (suc n) all few = absurd (omega arith)
-taken_same b (suc r) t zero all few = absurd (omega arith)
-taken_same b (suc r) zero (suc n) all few = absurd (omega arith)
-taken_same b (suc r) (suc t) (suc n) all few =
-    ap (λ xs. b ∷ xs) (taken_same b r t n (omega arith) (omega arith))
+-- bytes after zeros
+pub zeros_before : (k : ℕ) (bytes : List ℕ) → Holds bytes (replicate k 0 ++ bytes)
+zeros_before k bytes f nothing =
+    omega (arith, sum_by-append f (replicate k 0) bytes, zeros_count f nothing k)
 
-taken : (a b m r t n : ℕ) → n ≡ m + r → r ≤ t →
-    take n (replicate m a ++ replicate t b) ≡ replicate m a ++ replicate r b
-taken a b zero r t n all few = taken_same b r t n (omega arith) few
-taken a b (suc m) r t zero all few = absurd (omega arith)
-taken a b (suc m) r t (suc n) all few = ap (λ xs. a ∷ xs) (taken a b m r t n (omega arith) few)
-
--- of 64 bytes, 32 of each
-pub edge : (a b k m : ℕ) → k + m ≡ 32 → take 32 (drop k (replicate 32 a ++ replicate 32 b))
-    ≡ replicate m a ++ replicate k b
-edge a b k m whole = ap (take 32) (dropped a b m 32 k 32 (omega arith))
-    ∙ taken a b m k 32 32 (omega arith) (omega arith)
-
-all_bits : (x : ℕ) → Fits w8 x → bit_and x 255 ≡ x
-all_bits x small = and_mask x 8 ∙ mod-eq_of_lt small.fits
-
-nothing_kept : (f : ℕ → ℕ) → f 0 ≡ 0 → (v : List ℕ) (k : ℕ) → length v ≡ k →
-    sum_by f (zip2 bit_and v (replicate k 0)) ≡ 0
-nothing_kept f nothing [] k long = refl
-nothing_kept f nothing (x ∷ xs) zero long = absurd (omega arith)
-nothing_kept f nothing (x ∷ xs) (suc k) long =
-    let rest = nothing_kept f nothing xs k (omega arith) in
-    let first : f (bit_and x 0) ≡ 0 = ap f (and_zero_r x) ∙ nothing in
-    let both = sum_by-cons f (bit_and x 0) (zip2 bit_and xs (replicate k 0)) in
-    omega arith
-
-all_kept : (v : List ℕ) (c : ℕ) → Each1 (Fits w8) v → length v ≡ c →
-    zip2 bit_and v (replicate c 255) ≡ v
-all_kept [] c fits long = refl
-all_kept (x ∷ xs) zero fits long = absurd (omega arith)
-all_kept (x ∷ xs) (suc c) fits long = ap₂ (λ y ys. y ∷ ys) (all_bits x fits.0)
-    (all_kept xs c fits.1 (omega arith))
-
--- the first bytes are kept
-pub first_kept : (f : ℕ → ℕ) → f 0 ≡ 0 → (v : List ℕ) (c k : ℕ) → Each1 (Fits w8) v →
-    length v ≡ c + k →
-    sum_by f (zip2 bit_and v (replicate c 255 ++ replicate k 0)) ≡ sum_by f (take c v)
-first_kept f nothing v zero k fits long = nothing_kept f nothing v k (omega arith)
-first_kept f nothing [] (suc c) k fits long = absurd (omega arith)
-first_kept f nothing (x ∷ xs) (suc c) k fits long =
-    sum_by-cons f (bit_and x 255) (zip2 bit_and xs (replicate c 255 ++ replicate k 0))
-    ∙ ap₂ (λ y rest. f y + rest) (all_bits x fits.0)
-    (first_kept f nothing xs c k fits.1 (omega arith))
-    ∙ sym (sum_by-cons f x (take c xs))
-
--- the last bytes are kept
-pub last_kept : (f : ℕ → ℕ) → f 0 ≡ 0 → (v : List ℕ) (c k : ℕ) → Each1 (Fits w8) v →
-    length v ≡ k + c →
-    sum_by f (zip2 bit_and v (replicate k 0 ++ replicate c 255)) ≡ sum_by f (drop k v)
-last_kept f nothing v c zero fits long = ap (sum_by f) (all_kept v c fits (omega arith))
-last_kept f nothing [] c (suc k) fits long = absurd (omega arith)
-last_kept f nothing (x ∷ xs) c (suc k) fits long =
-    let rest = last_kept f nothing xs c k fits.1 (omega arith) in
-    let first : f (bit_and x 0) ≡ 0 = ap f (and_zero_r x) ∙ nothing in
-    let both = sum_by-cons f (bit_and x 0) (zip2 bit_and xs (replicate k 0 ++ replicate c 255)) in
-    omega arith
-
--- fewer bytes, with zeros after them
-pub filled_up : (bytes filled : List ℕ) → filled ≡ bytes ++ replicate (32 - length bytes) 0 →
-    Holds bytes filled
-filled_up bytes filled is f nothing =
-    let filler : List ℕ = replicate (32 - length bytes) 0 in
-    let joined : sum_by f (bytes ++ filler) ≡ sum_by f bytes + sum_by f filler =
-    sum_by-append f bytes filler in
-    let none : sum_by f filler ≡ (32 - length bytes) * f 0 =
-    sum_by-replicate f (32 - length bytes) 0 in
-    let no : (32 - length bytes) * f 0 ≡ (32 - length bytes) * 0 =
-    ap (λ n. (32 - length bytes) * n) nothing in
-    let same : sum_by f filled ≡ sum_by f (bytes ++ filler) = ap (sum_by f) is in
-    omega arith
+-- bytes before zeros
+pub zeros_behind : (k : ℕ) (bytes : List ℕ) → Holds bytes (bytes ++ replicate k 0)
+zeros_behind k bytes f nothing =
+    omega (arith, sum_by-append f bytes (replicate k 0), zeros_count f nothing k)
 
 -- A loop over the places from one to another, of which a vector holds some at a time, counts on.
 pub summed_on : (f : ℕ → ℕ) → f 0 ≡ 0 → (bytes vector : List ℕ) (from at stop n m : ℕ) → from ≤ at →
@@ -192,9 +118,7 @@ each_letter : (letter : ℕ) (v : List ℕ) → 97 ≤ letter → letter ≤ 122
     ≡ map (λ x. flag (eqb x (letter - 32) || eqb x letter)) v
 each_letter letter [] low high fits = refl
 each_letter letter (x ∷ xs) low high fits =
-    let small : x < 256 = fits.0.fits in
-    ap₂ (λ b ys. flag b ∷ ys) (one_letter letter x low high small)
-    (each_letter letter xs low high fits.1)
+    grind (arith, common_steps, one_letter, each_letter letter xs low high fits.1)
 
 -- comparing with a letter after setting the bit of lower case finds it in either case
 pub either_case : (letter : ℕ) (v : List ℕ) → 97 ≤ letter → letter ≤ 122 → length v ≡ 32 →
@@ -241,11 +165,3 @@ ones_at_most p (x ∷ xs) (suc k) = ones_at_most p xs k
 pub ones_are_few : (p : ℕ → Bool) (v ones : List ℕ) → ones ≡ map (one_if p) v → AtMost 1 ones
 ones_are_few p v ones is k = let small = ones_at_most p v k in let same =
     ap (λ xs. get_or xs k 0) is in omega arith
-
--- The last bytes are kept, after zeros.
-pub last_lanes : (v : List ℕ) (c k : ℕ) → Each1 (Fits w8) v → length v ≡ k + c →
-    zip2 bit_and v (replicate k 0 ++ replicate c 255) ≡ replicate k 0 ++ drop k v
-last_lanes v c zero fits long = all_kept v c fits (omega arith)
-last_lanes [] c (suc k) fits long = absurd (omega arith)
-last_lanes (x ∷ xs) c (suc k) fits long = ap₂ (λ y ys. y ∷ ys) (and_zero_r x)
-    (last_lanes xs c k fits.1 (omega arith))

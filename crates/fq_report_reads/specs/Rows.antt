@@ -1,5 +1,5 @@
 -- How many reads have each number, a histogram: row n counts the reads that have n.
-use Rattle.std.specs.Prelude.{ℕ, zero, suc, ◌≤◌, Bool, List, [], ◌∷◌, length, min, if◌then◌else◌}
+use Rattle.std.specs.Prelude.{ℕ, ◌≤◌, Bool, List, [], ◌∷◌, ◌++◌, length, min, replicate, if◌then◌else◌}
 use Rattle.fq_trim.specs.Sums.{capped_sum}
 
 -- the index of the last row of a histogram, which counts all numbers above 10,000
@@ -10,12 +10,15 @@ last_row = 10001
 abbrev pub most_rows : ℕ
 most_rows = 10002
 
+-- the rows of both together
+abbrev pub rows_plus : List ℕ → List ℕ → List ℕ
+rows_plus [] ns = ns
+rows_plus (m ∷ ms) [] = m ∷ ms
+rows_plus (m ∷ ms) (n ∷ ns) = capped_sum m n ∷ rows_plus ms ns
+
 -- one more in a row
 abbrev pub with_one : ℕ → List ℕ → List ℕ
-with_one zero [] = 1 ∷ []
-with_one zero (n ∷ ns) = capped_sum n 1 ∷ ns
-with_one (suc row) [] = 0 ∷ with_one row []
-with_one (suc row) (n ∷ ns) = n ∷ with_one row ns
+with_one row rows = rows_plus rows (replicate row 0 ++ (1 ∷ []))
 
 -- the row of a number: those above 10,000 share one
 abbrev pub row_of : ℕ → ℕ
@@ -33,12 +36,6 @@ counted_if holds number rows = if holds then counted number rows else rows
 abbrev pub counted_all : List ℕ → List ℕ → List ℕ
 counted_all [] rows = rows
 counted_all (n ∷ ns) rows = counted_all ns (counted n rows)
-
--- the rows of both together
-abbrev pub rows_plus : List ℕ → List ℕ → List ℕ
-rows_plus [] ns = ns
-rows_plus (m ∷ ms) [] = m ∷ ms
-rows_plus (m ∷ ms) (n ∷ ns) = capped_sum m n ∷ rows_plus ms ns
 
 -- there is room for each row
 pub record HasRoom (rows : List ℕ) (most : ℕ) : Type 0 where

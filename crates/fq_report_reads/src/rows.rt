@@ -60,11 +60,7 @@ impl Rows {
     pub(crate) fn count(&mut self, number: usize)
         ensures { self.new ≡ counted number self.old }
     {
-        let row = number.min(LAST_ROW);
-        if self.counts.len() <= row {
-            self.counts.resize(row + 1, 0).unwrap();
-        }
-        self.counts[row] = self.counts[row].saturating_add(1);
+        self.add_to(number.min(LAST_ROW), 1);
     }
 
     // Grows to at least this many rows. New rows count 0.

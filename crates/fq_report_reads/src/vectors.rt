@@ -11,15 +11,8 @@ use std::simd::prelude::*;
 // The number of bytes in a vector.
 pub(crate) const WIDTH: usize = 32;
 
-// 32 bytes 255, which keep all bits, and 32 zeros. A vector of this that begins in the first half
-// is a mask of the first bytes.
-const KEEPS_FIRST: [u8; 2 * WIDTH] = [
-    255, 255, 255, 255, 255, 255, 255, 255, 255, 255, 255, 255, 255, 255, 255, 255, 255, 255, 255,
-    255, 255, 255, 255, 255, 255, 255, 255, 255, 255, 255, 255, 255, 0, 0, 0, 0, 0, 0, 0, 0, 0, 0,
-    0, 0, 0, 0, 0, 0, 0, 0, 0, 0, 0, 0, 0, 0, 0, 0, 0, 0, 0, 0, 0, 0,
-];
-
-// 32 zeros and 32 bytes 255: masks of the last bytes.
+// 32 zeros and 32 bytes 255, which keep all bits. A vector of this that begins in the first half is
+// a mask of the last bytes.
 const KEEPS_LAST: [u8; 2 * WIDTH] = [
     0, 0, 0, 0, 0, 0, 0, 0, 0, 0, 0, 0, 0, 0, 0, 0, 0, 0, 0, 0, 0, 0, 0, 0, 0, 0, 0, 0, 0, 0, 0, 0,
     255, 255, 255, 255, 255, 255, 255, 255, 255, 255, 255, 255, 255, 255, 255, 255, 255, 255, 255,
@@ -35,24 +28,12 @@ pub(crate) fn vector_of(bytes: &[u8], at: usize, stop: usize) -> u8x32
     ensures { Holds (take (stop - at) (drop at bytes.now)) result }
 {
     if WIDTH <= stop - at {
-        u8x32::from_slice(&bytes[at..])
-    } else if WIDTH <= bytes.len() - at {
-        first_of(&bytes[at..], stop - at)
-    } else if stop == bytes.len() && WIDTH <= stop {
-        last_of(&bytes[stop - WIDTH..], stop - at)
-    } else {
-        all_of(&bytes[at..stop])
+        return u8x32::from_slice(&bytes[at..]);
     }
-}
-
-// The first `count` bytes.
-#[inline(always)]
-fn first_of(bytes: &[u8], count: usize) -> u8x32
-    requires few { count ≤ 32 }
-    requires enough { 32 ≤ length bytes.now }
-    ensures { Holds (take count bytes.now) result }
-{
-    u8x32::from_slice(bytes) & keeps_first(count)
+    if WIDTH <= stop {
+        return last_of(&bytes[stop - WIDTH..stop], stop - at);
+    }
+    all_of(&bytes[at..stop])
 }
 
 // The last `count` of 32 bytes, after zeros.
@@ -60,19 +41,9 @@ fn first_of(bytes: &[u8], count: usize) -> u8x32
 pub(crate) fn last_of(bytes: &[u8], count: usize) -> u8x32
     requires few { count ≤ 32 }
     requires all { length bytes.now ≡ 32 }
-    ensures holds { Holds (drop (32 - count) bytes.now) result }
-    ensures lanes { result ≡ replicate (32 - count) 0 ++ drop (32 - count) bytes.now }
+    ensures { result ≡ replicate (32 - count) 0 ++ drop (32 - count) bytes.now }
 {
     u8x32::from_slice(bytes) & keeps_last(count)
-}
-
-// A mask of the first `count` bytes.
-#[inline(always)]
-fn keeps_first(count: usize) -> u8x32
-    requires { count ≤ 32 }
-    ensures { result ≡ replicate count 255 ++ replicate (32 - count) 0 }
-{
-    u8x32::from_slice(&KEEPS_FIRST[WIDTH - count..])
 }
 
 // A mask of the last `count` bytes.
@@ -87,8 +58,7 @@ fn keeps_last(count: usize) -> u8x32
 // At most 32 bytes, from memory that may end after them, and then zeros.
 pub(crate) fn all_of(bytes: &[u8]) -> u8x32
     requires { length bytes.now ≤ 32 }
-    ensures holds { Holds bytes.now result }
-    ensures lanes { result ≡ bytes.now ++ replicate (32 - length bytes.now) 0 }
+    ensures { result ≡ bytes.now ++ replicate (32 - length bytes.now) 0 }
 {
     let mut filled = [0; WIDTH];
     filled[..bytes.len()].copy_from_slice(bytes);

@@ -12,6 +12,7 @@ use Rattle.fq_law_in_step.specs.Everything.{NothingIsLost, alternating, NothingI
 use Rattle.fq_pair.specs.Interleaved.{interleaved_mates, interleaved_fault_at}
 use Rattle.fq_law_in_step.proofs.EverythingLemmas.{ends}
 use Rattle.fq_law_in_step.proofs.everything.nothing_is_lost.Goals as goal
+use Rattle.std.proofs.lemmas.Grind.{common_steps}
 
 module _ (check : Bool) where
   abbrev taken : List Read → List Read → List Mates
@@ -22,32 +23,14 @@ module _ (check : Bool) where
   forward_split [] rs = refl
   forward_split (f ∷ fs) [] = refl
   forward_split (f ∷ fs) (r ∷ rs) =
-      let m = mates_in f r in
-      let ms = mates_of fs rs in
-      let P : List Mates → Type 0 = λ xs. f ∷ fs ≡ forward_reads xs ++ drop (length xs) (f ∷ fs) in
-      ⊎_elim
-      (λ is. subst P (sym (take_while-cons (belong check) m ms
-      ∙ cond-true (belong check m) (m ∷ take_while (belong check) ms) [] is))
-      (ap (λ (xs : List Read). f ∷ xs) (forward_split fs rs)))
-      (λ is. subst P (sym (take_while-cons (belong check) m ms
-      ∙ cond-false (belong check m) (m ∷ take_while (belong check) ms) [] is)) refl)
-      (cases_Bool (belong check m))
+      grind (arith, common_steps, take_while-cons, take_while, cases_Bool, forward_split fs rs)
 
   reverse_split : (fs rs : List Read) → rs ≡ reverse_reads (taken fs rs) ++ drop
       (length (taken fs rs)) rs
   reverse_split [] rs = refl
   reverse_split (f ∷ fs) [] = refl
   reverse_split (f ∷ fs) (r ∷ rs) =
-      let m = mates_in f r in
-      let ms = mates_of fs rs in
-      let P : List Mates → Type 0 = λ xs. r ∷ rs ≡ reverse_reads xs ++ drop (length xs) (r ∷ rs) in
-      ⊎_elim
-      (λ is. subst P (sym (take_while-cons (belong check) m ms
-      ∙ cond-true (belong check m) (m ∷ take_while (belong check) ms) [] is))
-      (ap (λ (xs : List Read). r ∷ xs) (reverse_split fs rs)))
-      (λ is. subst P (sym (take_while-cons (belong check) m ms
-      ∙ cond-false (belong check m) (m ∷ take_while (belong check) ms) [] is)) refl)
-      (cases_Bool (belong check m))
+      grind (arith, common_steps, take_while-cons, take_while, cases_Bool, reverse_split fs rs)
 
 -- without a fault nothing is left of either text
 record IsOver (xs ys : List Read) (f r : Records) : Type 0 where
@@ -58,10 +41,7 @@ record IsOver (xs ys : List Read) (f r : Records) : Type 0 where
 
 over : (n : ℕ) (xs ys : List Read) (f r : Records) →
     fault_at n (record f { reads = xs }) (record r { reads = ys }) ≡ None → IsOver xs ys f r
-over n [] [] f r is =
-    let a = ends Forward (λ fault. numbered fault n) f.fault _ is in
-    let b = ends Reverse (λ fault. numbered fault n) r.fault _ a.1 in
-    record { forward = refl; reverse = refl; forward_fault = a.0; reverse_fault = b.0 }
+over n [] [] f r is = grind (arith, common_steps, ends)
 over n [] (y ∷ ys) f r is = absurd (cc (ends Forward (λ fault. numbered fault n) f.fault _ is).1)
 over n (x ∷ xs) [] f r is = absurd (cc (ends Reverse (λ fault. numbered fault n) r.fault _ is).1)
 over n (x ∷ xs) (y ∷ ys) f r is = absurd (cc is)
@@ -129,12 +109,7 @@ record IsOverOne (xs : List Read) (t : Records) : Type 0 where
 
 over_one : (n : ℕ) (xs : List Read) (t : Records) →
     interleaved_fault_at n (record t { reads = xs }) ≡ None → IsOverOne xs t
-over_one n [] t is =
-    record {
-      reads = refl;
-      fault =
-          (ends Forward (λ fault. numbered fault (2 * n - 1)) t.fault _ is).0;
-    }
+over_one n [] t is = grind (arith, common_steps, ends)
 over_one n (x ∷ []) t is =
     absurd (cc (ends Reverse (λ fault. numbered fault (2 * n)) t.fault _ is).1)
 over_one n (x ∷ y ∷ xs) t is = absurd (cc is)

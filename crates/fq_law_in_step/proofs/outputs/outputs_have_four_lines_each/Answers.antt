@@ -1,29 +1,26 @@
-use Rattle.std.proofs.Common.{◌≡◌, ℕ, true, List, [], ◌∷◌, ◌++◌, refl, ap, ◌∙◌, append_assoc, arith, Bool, false, map, sym, subst, flat_map, filter}
+use Rattle.std.proofs.Common.{◌≡◌, ℕ, true, List, [], ◌∷◌, ◌++◌, refl, ap, ◌∙◌, append_assoc, arith, Bool, false, map, sym, flat_map, filter}
 use Rattle.std.specs.List.{list_all, All}
 use Rattle.std.proofs.lemmas.Bool.{and_parts, and_from, not_from_false, ne_eqb, leb-true}
 use Rattle.std.specs.Bool.{then_some}
 use Rattle.std.proofs.lemmas.List.Elements.{All-head, All-tail, All-filter, All-map, All-weaker}
 use Rattle.std.proofs.lemmas.List.Folds.{flat_map-map}
 use Rattle.fq_text.specs.Lines.{pieces}
-use Rattle.fq_text.specs.Written.{line, written, written_quality, as_written}
+use Rattle.fq_text.specs.Written.{written, written_quality, as_written}
 use Rattle.fq_text.specs.declared.encoding.Encoding.{Encoding}
-use Rattle.fq_text.specs.Scores.{lowest, is_scored, recoded}
+use Rattle.fq_text.specs.Scores.{is_scored, recoded, lowest}
 use Rattle.fq_text.specs.declared.encoding.Encoding.TheVariants.{Sanger}
-use Rattle.fq_text.specs.Grammar.{Read, is_base}
+use Rattle.fq_text.specs.Grammar.{Read}
 use Rattle.fq_trim.specs.declared.step.Step.{Step}
-use Rattle.fq_trim.specs.Keeping.{recodes}
-use Rattle.fq_trim.specs.KeptPlaces.{kept_places, bytes_at}
 use Rattle.fq_pair.specs.Outputs.{record_text, both_survive, forward_alone, reverse_alone}
-use Rattle.fq_law_in_step.specs.Pieces.{left_of}
 use Rattle.fq_law_in_step.specs.InStep.{IsReadIn, IsPairIn}
 use Rattle.fq_law_in_step.specs.FourLines.{four_lines, HasFourLinesEach, OutputsAreFourLinesEach}
 use Rattle.fq_pair.specs.Mates.{Mates}
 use Rattle.fq_law_in_step.proofs.FourLineLemmas.{not_lf, ends}
 use Rattle.fq_text.proofs.ScoreLemmas.{low_base, all_recoded_scored}
 use Rattle.fq_text.proofs.WrittenLemmas.{clean_bases}
-use Rattle.fq_trim.proofs.KeptLemmas.{Below}
 use Rattle.fq_law_in_step.proofs.ReadLemmas.{hold_at, kept_below_read}
 use Rattle.fq_law_in_step.proofs.outputs.outputs_have_four_lines_each.Goals as goal
+use Rattle.std.proofs.lemmas.Grind.{common_steps}
 
 -- four lines, and then a text
 four_pieces : (title seq qual text : List ℕ) → list_all not_lf title ≡ true →
@@ -31,18 +28,7 @@ four_pieces : (title seq qual text : List ℕ) → list_all not_lf title ≡ tru
     pieces (written title seq qual ++ text)
     ≡ (64 ∷ title) ∷ seq ∷ (43 ∷ []) ∷ qual ∷ pieces text
 four_pieces title seq qual text clean_title clean_seq clean_qual =
-    let after_plus = line qual ++ text in
-    let after_seq = line (43 ∷ []) ++ after_plus in
-    let after_title = line seq ++ after_seq in
-    let apart : written title seq qual ++ text ≡ line (64 ∷ title) ++ after_title =
-    append_assoc (line (64 ∷ title) ++ line seq ++ line (43 ∷ [])) (line qual) text
-    ∙ append_assoc (line (64 ∷ title) ++ line seq) (line (43 ∷ [])) after_plus
-    ∙ append_assoc (line (64 ∷ title)) (line seq) after_seq in
-    ap pieces apart
-    ∙ (ends (64 ∷ title) after_title clean_title
-    ∙ ap (λ ls. (64 ∷ title) ∷ ls) (ends seq after_seq clean_seq
-    ∙ ap (λ ls. seq ∷ ls) (ends (43 ∷ []) after_plus refl
-    ∙ ap (λ ls. (43 ∷ []) ∷ ls) (ends qual text clean_qual))))
+    grind (arith, common_steps, append_assoc, ends)
 
 -- a byte that has a score is no LF
 scored_clean : (e : Encoding) (l : List ℕ) → list_all (is_scored e) l ≡ true →
@@ -74,18 +60,16 @@ one_record : (steps : List Step) (e : Encoding) (read : Read) (text : List ℕ) 
     IsReadIn e read →
     pieces (record_text steps read ++ text) ≡ four_lines steps read ++ pieces text
 one_record steps e read text is =
-    let lawful = is.lawful in
-    let at = kept_places steps read in
-    let below = kept_below_read steps read lawful.same_len in
-    let below_qual = subst (λ n. Below n at) (sym lawful.same_len) below in
-    let seq = clean_bases (bytes_at at read.seq) (hold_at is_base read.seq at below lawful.bases) in
-    let qual = qual_clean (recodes steps) read.encoding (bytes_at at read.qual)
-    (hold_at (is_scored read.encoding) read.qual at below_qual lawful.scores) in
-    four_pieces read.title (bytes_at at read.seq)
-    (written_quality (then_some (recodes steps) read.encoding) (bytes_at at read.qual)) text
-    lawful.one_line seq qual
-    ∙ ap (λ (ls : List (List ℕ)). ls ++ pieces text)
-    (same_lines (recodes steps) read.encoding (left_of steps read))
+    grind (
+      arith,
+      common_steps,
+      kept_below_read,
+      clean_bases,
+      hold_at,
+      qual_clean,
+      four_pieces,
+      same_lines,
+    )
 
 -- the lines of many records
 many_records : (steps : List Step) (e : Encoding) (reads : List Read) → All (IsReadIn e) reads →

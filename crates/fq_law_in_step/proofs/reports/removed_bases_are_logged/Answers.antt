@@ -1,10 +1,10 @@
-use Rattle.std.proofs.Common.{ℕ, List, get_or, ◌≡◌, ◌<◌, zero, suc, refl, arith, ◌+◌, ◌∙◌, [], ◌∷◌, length, ◌-◌, map, ap₂, sym, ap, ◌++◌, subst, true, not, Bool, false, cond, filter, fold}
+use Rattle.std.proofs.Common.{ℕ, List, get_or, ◌≡◌, ◌<◌, zero, suc, refl, arith, ◌+◌, ◌∙◌, [], ◌∷◌, length, ◌-◌, map, ap₂, sym, ap, ◌++◌, subst, true, not, Bool, false, cond, fold}
 use Rattle.std.proofs.lemmas.List.{get_or-map, length-map}
 use Rattle.std.specs.List.{All}
 use Rattle.std.proofs.lemmas.List.Elements.{All-head, All-tail}
 use Rattle.fq_trim.specs.Keeping.{places, kept, kept_of, scores}
 use Rattle.fq_trim.specs.declared.step.Step.{Step}
-use Rattle.fq_report_reads.specs.Courses.{Part, Course, after, one_list, course_of, part_at, survives, alone, course, whole}
+use Rattle.fq_report_reads.specs.Courses.{Part, Course, after, one_list, course_of, part_at, survives, alone, course}
 use Rattle.fq_text.specs.Scores.{value_of}
 use Rattle.fq_pair.specs.Outputs.{log_numbers}
 use Rattle.fq_trim.specs.KeptPlaces.{is_empty, kept_places}
@@ -23,6 +23,7 @@ use Rattle.fq_report_reads.proofs.LeftLaws.{at, kept_within, kept_append, alone_
 use Rattle.fq_law_in_step.proofs.PieceLemmas.{spans}
 use Rattle.fq_trim.specs.KeptPlaces as of_steps
 use Rattle.fq_law_in_step.proofs.reports.removed_bases_are_logged.Goals as goal
+use Rattle.std.proofs.lemmas.Grind.{common_steps}
 
 -- The bases removed at each end of a read are counted as the log has them.
 
@@ -154,12 +155,7 @@ module _ (steps : List Step) (read : Read) (same : length read.qual ≡ length r
   some_places = some_kept places_kept survived
 
   front_is : taken.front ≡ first places_kept
-  front_is =
-      let q = scores read.encoding read.qual in
-      let all = ap (λ (ss : List Step). kept ss q) (alone_are_all steps) in
-      let some : 0 < length (kept (one_list (alone steps)) q) =
-      subst (λ (ps : List ℕ). 0 < length ps) (sym all) some_places in
-      front_in_turn (alone steps) 0 (whole read) some ∙ ap first all
+  front_is = grind (arith, common_steps, alone_are_all, some_places, front_in_turn)
 
   left_is : length taken.left.seq ≡ length places_kept
   left_is =
@@ -170,9 +166,7 @@ module _ (steps : List Step) (read : Read) (same : length read.qual ≡ length r
 
   behind_logged : behind_of read taken.left taken.front
       ≡ get_or (log_numbers (length read.seq) places_kept) 3 0
-  behind_logged =
-      ap₂ (λ a b. length read.seq - a - b) front_is left_is
-      ∙ sym (fourth_of (length read.seq) places_kept some_places)
+  behind_logged = grind (arith, common_steps, front_is, left_is, fourth_of, some_places)
 
 -- Counted, read after read.
 
@@ -200,22 +194,7 @@ one_more : (steps : List Step) (read : Read) (reads : List Read) (m : Bool) (t e
     IsCounted steps reads (with_read read (course (alone steps) read) m t) end →
     IsCounted steps (read ∷ reads) t end
 one_more steps read reads m t end same rest =
-    let c = course (alone steps) read in
-    let s = of_steps.survives steps read in
-    let is = survives_as_kept steps read same in
-    let number : ℕ → Read → ℕ = λ place r. get_or (log_numbers (length r.seq) (kept_places steps r))
-    place 0 in
-    let others = filter (of_steps.survives steps) reads in
-    let front = counted_same (survives c.left) s c.front (number 1 read) t.removed_front is
-    (front_logged steps read same) in
-    let behind = counted_same (survives c.left) s (behind_of read c.left c.front) (number 3 read)
-    t.removed_behind is (behind_logged steps read same) in
-    record {
-      front = rest.front ∙ ap (counted_all (logged 1 steps reads)) front
-          ∙ sym (picked (number 1) s read others t.removed_front);
-      behind = rest.behind ∙ ap (counted_all (logged 3 steps reads)) behind
-          ∙ sym (picked (number 3) s read others t.removed_behind);
-    }
+    grind (arith, common_steps, survives_as_kept, counted_same, front_logged, behind_logged, picked)
 
 record AreCounted (steps : List Step) (ms : List Mates) (old new : Tally) : Type 0 where
   forward : IsCounted steps (forward_reads ms) old.forward new.forward

@@ -1,4 +1,4 @@
-use Rattle.std.proofs.Common.{◌≡◌, ◌≤◌, ℕ, ◌+◌, List, [], ◌∷◌, sum, arith, ◌++◌, length, take, drop, nat_le, ap, ◌∙◌, ⊎_elim, ◌<◌, min, map, refl, Bool, count_by, ◌||◌, cond, ◌==◌, false, sym, subst, max, true, not, ◌&&◌, fold}
+use Rattle.std.proofs.Common.{◌≡◌, ◌≤◌, ℕ, ◌+◌, List, [], ◌∷◌, sum, arith, ◌++◌, length, take, drop, nat_le, ap, ◌∙◌, ⊎_elim, ◌<◌, min, map, refl, Bool, count_by, cond, false, max, true, not, ◌&&◌, fold}
 use Rattle.std.proofs.lemmas.Bool.{cond-true, cond-false, cases_Bool, cases_lt, le-leb, lt-leb, eqb-true}
 use Rattle.std.proofs.lemmas.List.{take-append-drop, length-append, length-take, length-map}
 use Rattle.std.proofs.lemmas.List.Sums.{sum_by-append, sum_by-cons}
@@ -6,7 +6,7 @@ use Rattle.std.specs.List.{sum_by, All}
 use Rattle.std.proofs.lemmas.List.Elements.{All-head, All-tail}
 use Rattle.fq_trim.specs.Sums.{capped_sum}
 use Rattle.fq_report_reads.specs.Rows.{rows_plus, with_one, row_of}
-use Rattle.fq_law_in_step.specs.ReportLists.{most, AddUpTo, ListsAddUp, SideListsAddUp, AreAsLong, SideListsAreAsLong, ReportListsAddUp, ReportListsAreAsLong}
+use Rattle.fq_law_in_step.specs.ReportLists.{AddUpTo, ListsAddUp, SideListsAddUp, AreAsLong, SideListsAreAsLong, ReportListsAddUp, ReportListsAreAsLong}
 use Rattle.fq_report_reads.specs.Counting.{by_position, one_if}
 use Rattle.fq_report_reads.specs.Letters.{is_c, is_g, is_gc, is_n}
 use Rattle.fq_report_reads.specs.Courses.{Part, alone, course, whole, survives}
@@ -19,48 +19,30 @@ use Rattle.fq_report_reads.specs.SideColumns.{SideColumns, with_before, with_aft
 use Rattle.fq_report_reads.specs.declared.side.SideTally.{SideTally}
 use Rattle.fq_text.specs.Grammar.{Read}
 use Rattle.fq_trim.specs.declared.step.Step.{Step}
-use Rattle.fq_trim.specs.KeptPlaces.{kept_places}
 use Rattle.fq_report_pairs.specs.declared.tally.Tally.{Tally}
 use Rattle.fq_text.specs.declared.encoding.Encoding.{Encoding}
 use Rattle.fq_pair.specs.Mates.{Mates}
 use Rattle.fq_report_pairs.specs.Tallies.{with_pair, no_tally}
 use Rattle.fq_law_in_step.specs.InStep.{IsPairIn}
-use Rattle.fq_law_in_step.proofs.ReportLemmas.{sum-cons, sum_one}
+use Rattle.fq_law_in_step.proofs.ReportLemmas.{sum-cons, sum_one, sum_plus}
 use Rattle.fq_report_reads.proofs.RowLemmas.{length-rows_plus}
 use Rattle.fq_report_reads.proofs.ColumnLemmas.{OfEach, each_with_read, each_of_none, each_listed}
 use Rattle.fq_report_reads.proofs.LeftLaws.{left_as_kept}
 use Rattle.fq_law_in_step.proofs.reports.report_lists_add_up.Goals as goal
+use Rattle.std.proofs.lemmas.Grind.{common_steps}
 
 -- Lists of numbers by position: their sums and lengths.
-
--- lists that are added row by row have the sum of both, if 64 bits can hold it
-sum_plus : (xs ys : List ℕ) → sum xs + sum ys ≤ most → sum (rows_plus xs ys) ≡ sum xs + sum ys
-sum_plus [] ys few = omega arith
-sum_plus (x ∷ xs) [] few = omega arith
-sum_plus (x ∷ xs) (y ∷ ys) few =
-    let left = sum-cons x xs in
-    let right = sum-cons y ys in
-    let rest = sum_plus xs ys (omega arith) in
-    let whole = sum-cons (capped_sum x y) (rows_plus xs ys) in
-    omega arith
 
 -- a total to which numbers add up, and one more number
 added : (total x : ℕ) (xs ys : List ℕ) → AddUpTo total (sum xs) → sum ys ≡ x →
     AddUpTo (capped_sum total x) (sum (rows_plus xs ys))
-added total x xs ys up is = λ small.
-    let here = up (omega arith) in
-    let both = sum_plus xs ys (omega arith) in
-    omega arith
+added total x xs ys up is = grind (arith, common_steps, sum_plus)
 
 -- and of two lists that share a total
 added_two : (total x : ℕ) (xs ys us vs : List ℕ) → AddUpTo total (sum xs + sum ys) →
     sum us + sum vs ≡ x →
     AddUpTo (capped_sum total x) (sum (rows_plus xs us) + sum (rows_plus ys vs))
-added_two total x xs ys us vs up is = λ small.
-    let here = up (omega arith) in
-    let first = sum_plus xs us (omega arith) in
-    let second = sum_plus ys vs (omega arith) in
-    omega arith
+added_two total x xs ys us vs up is = grind (arith, common_steps, sum_plus)
 
 -- a list by position has the same sum as the numbers that it is made of
 sum_placed : (ns : List ℕ) → sum (by_position ns) ≡ sum ns
@@ -93,19 +75,12 @@ length_placed ns =
 
 sum_map : (f : ℕ → ℕ) (xs : List ℕ) → sum (map f xs) ≡ sum_by f xs
 sum_map f [] = refl
-sum_map f (x ∷ xs) =
-    let rest = sum_map f xs in
-    let left = sum-cons (f x) (map f xs) in
-    let right = sum_by-cons f x xs in
-    omega arith
+sum_map f (x ∷ xs) = grind (arith, common_steps, sum-cons, sum_by-cons, sum_map f xs)
 
 -- a one for each number adds up to how many numbers there are
 sum_ones : (xs : List ℕ) → sum (map (λ _. 1) xs) ≡ length xs
 sum_ones [] = refl
-sum_ones (x ∷ xs) =
-    let rest = sum_ones xs in
-    let front = sum-cons 1 (map (λ (n : ℕ). 1) xs) in
-    omega arith
+sum_ones (x ∷ xs) = grind (arith, common_steps, sum-cons, sum_ones xs)
 
 -- a one for each number that passes a test adds up to how many pass
 sum_of_those : (p : ℕ → Bool) (xs : List ℕ) → sum (map (one_if p) xs) ≡ count_by p xs
@@ -115,51 +90,18 @@ sum_of_those p xs = sum_map (one_if p) xs
 abbrev IsOneLetter : ℕ → Type 0
 IsOneLetter b = one_if is_c b + one_if is_g b ≡ one_if is_gc b
 
-abbrev one_of_four : Bool → Bool → Bool → Bool → Type 0
-one_of_four c c' g g' =
-    cond (c || c') 1 0 + cond (g || g') 1 0 ≡ cond ((g || c) || (g' || c')) 1 0
-
 one_letter : (b : ℕ) → IsOneLetter b
-one_letter b = ⊎_elim
-    (λ is. subst IsOneLetter (sym (eqb-true b 67 is)) refl)
-    (λ no_c. ⊎_elim
-    (λ is. subst IsOneLetter (sym (eqb-true b 99 is)) refl)
-    (λ no_c'. ⊎_elim
-    (λ is. subst IsOneLetter (sym (eqb-true b 71 is)) refl)
-    (λ no_g. ⊎_elim
-    (λ is. subst IsOneLetter (sym (eqb-true b 103 is)) refl)
-    (λ no_g'. others no_c no_c' no_g no_g')
-    (cases_Bool (b == 103)))
-    (cases_Bool (b == 71)))
-    (cases_Bool (b == 99)))
-    (cases_Bool (b == 67))
-  where
-    others : (b == 67) ≡ false → (b == 99) ≡ false → (b == 71) ≡ false → (b == 103) ≡ false →
-        IsOneLetter b
-    others c c' g g' =
-        subst (λ w. one_of_four w (b == 99) (b == 71) (b == 103)) (sym c)
-        (subst (λ x. one_of_four false x (b == 71) (b == 103)) (sym c')
-        (subst (λ y. one_of_four false false y (b == 103)) (sym g)
-        (subst (λ z. one_of_four false false false z) (sym g') refl)))
+one_letter b = grind (arith, common_steps, eqb-true, cases_Bool)
 
 -- the bases that are C and those that are G add up to those that are either
 sum_of_gc : (xs : List ℕ) →
     sum (map (one_if is_c) xs) + sum (map (one_if is_g) xs) ≡ count_by is_gc xs
 sum_of_gc [] = refl
-sum_of_gc (x ∷ xs) =
-    let rest = sum_of_gc xs in
-    let one = one_letter x in
-    let first = sum-cons (one_if is_c x) (map (one_if is_c) xs) in
-    let second = sum-cons (one_if is_g x) (map (one_if is_g) xs) in
-    let whole = sum_by-cons (λ (b : ℕ). cond (is_gc b) 1 0) x xs in
-    omega arith
+sum_of_gc (x ∷ xs) = grind (arith, common_steps, one_letter, sum-cons, sum_by-cons, sum_of_gc xs)
 
 one_counted : (reads n : ℕ) (rows : List ℕ) → AddUpTo reads (sum rows) →
     AddUpTo (capped_sum reads 1) (sum (with_one (row_of n) rows))
-one_counted reads n rows up = λ small.
-    let here = up (omega arith) in
-    let more = sum_one (row_of n) rows (omega arith) in
-    omega arith
+one_counted reads n rows up = grind (arith, common_steps, sum_one)
 
 -- as many quality bytes as bases
 abbrev Matches : Part → Type 0
@@ -194,10 +136,7 @@ sums_more part t cs up =
 
 list_longer : (longest n : ℕ) (xs ns : List ℕ) → length xs ≡ min longest 10001 → length ns ≡ n →
     length (rows_plus xs (by_position ns)) ≡ min (max longest n) 10001
-list_longer longest n xs ns is size =
-    let both = length-rows_plus xs (by_position ns) in
-    let placed = length_placed ns in
-    omega arith
+list_longer longest n xs ns is size = grind (arith, common_steps, length-rows_plus, length_placed)
 
 -- each list by position is as long as the longest read, but has at most 10,001 items
 abbrev Lengths : ℕ → Columns → Type 0
@@ -205,10 +144,7 @@ Lengths longest cs = OfEach (λ list. length list ≡ min longest 10001) cs
 
 lengths_more : (part : Part) (t : ReadsTally) (cs : Columns) → Matches part → Lengths t.longest cs →
     Lengths (max t.longest (length part.seq)) (columns_plus cs (columns_of part))
-lengths_more part t cs same are =
-    each_with_read (λ list. length list ≡ min t.longest 10001)
-    (λ list. length list ≡ min (max t.longest (length part.seq)) 10001) cs part same
-    (λ xs ns is size. list_longer t.longest (length part.seq) xs ns is size) are
+lengths_more part t cs same are = grind (arith, common_steps, each_with_read, list_longer)
 
 -- One side.
 
@@ -258,10 +194,7 @@ SideOf t = Side t.before t.paired t.unpaired t.positions
 
 left_matches : (steps : List Step) (read : Read) → length read.qual ≡ length read.seq →
     Matches (course (alone steps) read).left
-left_matches steps read same =
-    let at = kept_places steps read in
-    subst Matches (sym (left_as_kept steps read same))
-    (length-map at _ ∙ sym (length-map at _))
+left_matches steps read same = grind (arith, common_steps, left_as_kept, length-map)
 
 read_more : (steps : List Step) (read : Read) (m : Bool) (t : SideTally) →
     length read.qual ≡ length read.seq → SideOf t →
@@ -291,40 +224,19 @@ all_more check e steps (m ∷ ms) t are sides =
     })
 
 none : Both no_reads no_columns
-none = record {
-  sums = record {
-    lengths = λ small. refl;
-    bases = λ small. refl;
-    score_sum = λ small. refl;
-    q30_bases = λ small. refl;
-    gc_bases = λ small. refl;
-    n_bases = λ small. refl;
-  };
-  lengths = each_of_none (λ list. length list ≡ min no_reads.longest 10001) refl;
-}
+none = grind (arith, common_steps, each_of_none)
 
 no_reads_yet : Sides no_tally
-no_reads_yet = record {
-  forward = record { before_both = none; paired_both = none; unpaired_both = none };
-  reverse = record { before_both = none; paired_both = none; unpaired_both = none };
-}
+no_reads_yet = grind (arith, common_steps, none)
 
 side_sums : (t : SideTally) → SideOf t → SideListsAddUp t
-side_sums t side = record {
-  before = side.before_both.sums;
-  paired = side.paired_both.sums;
-  unpaired = side.unpaired_both.sums;
-}
+side_sums t side = grind (arith, common_steps)
 
 listed : (t : ReadsTally) (cs : Columns) → Lengths t.longest cs → AreAsLong t cs
 listed t cs are = each_listed (λ list. length list ≡ min t.longest 10001) cs are
 
 side_lengths : (t : SideTally) → SideOf t → SideListsAreAsLong t
-side_lengths t side = record {
-  before = listed t.before t.positions.before side.before_both.lengths;
-  paired = listed t.paired t.positions.paired side.paired_both.lengths;
-  unpaired = listed t.unpaired t.positions.unpaired side.unpaired_both.lengths;
-}
+side_lengths t side = grind (arith, common_steps, listed)
 
 -- each list of a report adds up to its total, if that is below the largest number of 64 bits
 lists_add_up : ReportListsAddUp

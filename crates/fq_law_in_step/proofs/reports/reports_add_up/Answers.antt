@@ -1,4 +1,4 @@
-use Rattle.std.proofs.Common.{◌≡◌, ℕ, zero, suc, List, ◌∷◌, get_or, map, refl, ap, [], sum, arith, ◌≤◌, length, ◌<◌, ◌+◌, false, ◌⊎◌, true, inl, inr, ⊎_elim, not, ◌∙◌, ◌≢◌, subst, Bool, cond, sym, ◌&&◌, filter, fold}
+use Rattle.std.proofs.Common.{◌≡◌, ℕ, zero, suc, List, ◌∷◌, get_or, map, refl, ap, [], sum, arith, ◌≤◌, length, ◌<◌, ◌+◌, false, ◌⊎◌, true, inl, ⊎_elim, not, ◌∙◌, ◌≢◌, subst, Bool, cond, ◌&&◌, filter, fold}
 use Rattle.std.specs.List.{All}
 use Rattle.std.proofs.lemmas.List.Elements.{All-head, All-tail}
 use Rattle.fq_trim.specs.Keeping.{places, kept, scores}
@@ -24,6 +24,7 @@ use Rattle.fq_law_in_step.proofs.CountLemmas.{bit, one_more}
 use Rattle.fq_report_reads.proofs.RowLemmas.{length-with_one}
 use Rattle.fq_trim.specs.KeptPlaces as of_steps
 use Rattle.fq_law_in_step.proofs.reports.reports_add_up.Goals as goal
+use Rattle.std.proofs.lemmas.Grind.{common_steps}
 
 -- the numbers at the first places add up to the sum
 at_next : (x : ℕ) (xs : List ℕ) (a n : ℕ) → map (λ i. get_or (x ∷ xs) i 0) (places (suc a) n) ≡ map
@@ -33,21 +34,13 @@ at_next x xs a (suc n) = ap (λ (ns : List ℕ). get_or xs a 0 ∷ ns) (at_next 
 
 none_at : (a n : ℕ) → sum (map (λ i. get_or [] i 0) (places a n)) ≡ 0
 none_at a zero = refl
-none_at a (suc n) =
-    let rest = none_at (suc a) n in
-    let front = sum-cons 0 (map (λ i. get_or [] i 0) (places (suc a) n)) in
-    omega arith
+none_at a (suc n) = grind (arith, common_steps, sum-cons, none_at (suc a) n)
 
 sum_at : (xs : List ℕ) (n : ℕ) → length xs ≤ n →
     sum (map (λ i. get_or xs i 0) (places 0 n)) ≡ sum xs
 sum_at [] n few = none_at 0 n
 sum_at (x ∷ xs) zero few = absurd (omega arith)
-sum_at (x ∷ xs) (suc n) few =
-    let rest = sum_at xs n (omega arith) in
-    let next = ap sum (at_next x xs 0 n) in
-    let front = sum-cons x (map (λ i. get_or (x ∷ xs) i 0) (places 1 n)) in
-    let all = sum-cons x xs in
-    omega arith
+sum_at (x ∷ xs) (suc n) few = grind (arith, common_steps, at_next, sum-cons, sum_at xs n)
 
 -- Which step drops a read.
 
@@ -65,36 +58,13 @@ Goes n m c = ((survives c.left ≡ true) × (c.dropped ≡ [])) ⊎ IsDropped n 
 
 goes_after : (n m : ℕ) (at : List ℕ) (part : Part) (c : Course) →
     (is_empty at ≡ false → Goes (suc n) m c) → Goes n (suc m) (after n at part c)
-goes_after n m [] part c on = inr (record {
-  by = n;
-  from = omega arith;
-  below = omega arith;
-  gone =
-      refl;
-  dropped = refl;
-})
-goes_after n m (start ∷ others) part c on = ⊎_elim
-    (λ whole. inl whole)
-    (λ one.
-    let from = one.from in
-    let below = one.below in
-    inr (record {
-      by = one.by;
-      from = omega arith;
-      below = omega arith;
-      gone = one.gone;
-      dropped =
-          one.dropped;
-    }))
-    (on refl)
+goes_after n m [] part c on = grind (arith, common_steps)
+goes_after n m (start ∷ others) part c on = grind (arith, common_steps)
 
 goes : (n : ℕ) (lists : List (List Step)) (part : Part) →
     (is_empty part.seq ≡ false) ⊎ (0 < length lists) →
     Goes n (length lists) (course_of n lists part)
-goes n [] part some = ⊎_elim
-    (λ base. inl (ap not base, refl))
-    (λ step. absurd (omega arith))
-    some
+goes n [] part some = grind (arith, common_steps)
 goes n (steps ∷ lists) part some =
     let at = kept steps (scores part.encoding part.qual) in
     goes_after n (length lists) at part (course_of (suc n) lists (part_at at part))
@@ -108,16 +78,10 @@ some_step (step ∷ steps) none = omega arith
 
 by_steps : (steps : List Step) (read : Read) → 0 < length steps →
     Goes 0 (length steps) (course (alone steps) read)
-by_steps steps read some =
-    let size = alone_length steps in
-    subst (λ (n : ℕ). Goes 0 n (course (alone steps) read)) size
-    (goes 0 (alone steps) (whole read) (inr (omega arith)))
+by_steps steps read some = grind (arith, common_steps, alone_length, goes)
 
 once : (n m : ℕ) (c : Course) → Goes n m c → length c.dropped ≡ cond (survives c.left) 0 1
-once n m c way = ⊎_elim
-    (λ none. ap length none.1 ∙ ap (λ (x : Bool). cond x 0 1) (sym none.0))
-    (λ one. ap length one.dropped ∙ ap (λ (x : Bool). cond x 0 1) (sym one.gone))
-    way
+once n m c way = grind (arith, common_steps)
 
 -- a read that survives is dropped by no step, and any other read by exactly one
 dropped_once : ReadsAreDroppedOnce
@@ -220,16 +184,7 @@ module _ (steps : List Step) (t : SideTally) (all both only gone : ℕ)
 
 counted_as : (steps : List Step) (t : SideTally) (a b o g a' b' o' g' : ℕ) →
     Counts steps t a b o g → a ≡ a' → b ≡ b' → o ≡ o' → g ≡ g' → Counts steps t a' b' o' g'
-counted_as steps t a b o g a' b' o' g' c same_a same_b same_o same_g =
-    let is = c.sum_is in
-    record {
-      before = c.before ∙ same_a;
-      paired = c.paired ∙ same_b;
-      unpaired = c.unpaired ∙ same_o;
-      dropped = c.dropped ∙ same_g;
-      rows = c.rows;
-      sum_is = omega arith;
-    }
+counted_as steps t a b o g a' b' o' g' c same_a same_b same_o same_g = grind (arith, common_steps)
 
 -- Both sides.
 
@@ -279,14 +234,7 @@ all_counted : (check : Bool) (e : Encoding) (steps : List Step) (ms : List Mates
     BothSides steps (fold (with_pair (alone steps)) t ms) (length ms + a)
     (length (filter (both_survive steps) ms) + b)
     (length (filter (forward_alone steps) ms) + f) (length (filter (reverse_alone steps) ms) + r)
-all_counted check e steps [] t a b f r some are few sides = record {
-  forward_gone = sides.forward_gone;
-  reverse_gone = sides.reverse_gone;
-  forward = counted_as steps t.forward a b f sides.forward_gone (0 + a) (0 + b) (0 + f)
-      sides.forward_gone sides.forward (omega arith) (omega arith) (omega arith) refl;
-  reverse = counted_as steps t.reverse a b r sides.reverse_gone (0 + a) (0 + b) (0 + r)
-      sides.reverse_gone sides.reverse (omega arith) (omega arith) (omega arith) refl;
-}
+all_counted check e steps [] t a b f r some are few sides = grind (arith, common_steps, counted_as)
 all_counted check e steps (m ∷ ms) t a b f r some are few sides =
     let pair = All-head (IsPairIn check e) m ms are in
     let next = pair_counted steps t a b f r m some pair.forward.lawful.same_len

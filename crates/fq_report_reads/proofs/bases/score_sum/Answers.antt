@@ -7,6 +7,7 @@ use Rattle.fq_text.specs.declared.encoding.Encoding.TheVariants.{Sanger, Illumin
 use Rattle.fq_text.specs.Scores.{lowest, offset, is_scored, value_at, value_of}
 use Rattle.fq_trim.specs.Keeping.{scores}
 use Rattle.fq_report_reads.proofs.bases.score_sum.Goals as goal
+use Rattle.std.proofs.lemmas.Grind.{common_steps}
 
 -- the offset is no more than the lowest byte
 within : (e : Encoding) (off : ℕ) → offset e ≡ Some off → off ≤ lowest e
@@ -41,10 +42,4 @@ overflow_sub-result c =
 
 -- the sum of the scores is less by the offset for each byte
 pub returns-in-Some : goal.returns-in-Some
-returns-in-Some c =
-    omega (
-      arith,
-      distances c.args.encoding c.from.result
-          (sym c.offset.ensures.is ∙ c.in-Some.is ∙ ap Some (sym c.from.ensures))
-          c.args.qual.now c.requires.scored,
-    )
+returns-in-Some c = grind (arith, common_steps, distances)

@@ -1,19 +1,16 @@
-use Rattle.std.proofs.Common.{◌≡◌, ◌+◌, ◌-◌, length, take, drop, arith, ℕ, nat_le, cond, count_by, List, [], ◌∷◌, refl, ap₂, sym, ◌∙◌}
+use Rattle.std.proofs.Common.{◌≡◌, ◌-◌, length, take, drop, arith, ℕ, nat_le, count_by, List, [], ◌∷◌, refl, sym, ◌∙◌}
 use Rattle.std.proofs.lemmas.List.{length-take-le, length-drop}
 use Rattle.std.proofs.lemmas.List.Sums.{sum_by-cons}
 use Rattle.fq_text.specs.declared.encoding.Encoding.{Encoding}
-use Rattle.fq_text.specs.Scores.{is_scored, value_of}
+use Rattle.fq_text.specs.Scores.{value_of}
 use Rattle.fq_trim.specs.Keeping.{scores}
 use Rattle.fq_trim.proofs.PlaceLemmas.{all_taken, all_dropped}
 use Rattle.fq_report_reads.proofs.bases.BaseTally.of.Goals as goal
+use Rattle.std.proofs.lemmas.Grind.{common_steps}
 
 -- each quality byte of the part has a score
 pub score_sum-sum-requires-clause-scored : goal.score_sum-sum-requires-clause-scored
-score_sum-sum-requires-clause-scored c =
-    let scored = is_scored c.args.encoding in
-    let qual = c.args.qual.now in
-    all_taken scored (drop c.args.from qual) (c.args.to - c.args.from)
-    (all_dropped scored qual c.args.from c.requires.scored)
+score_sum-sum-requires-clause-scored c = grind (arith, common_steps, all_taken, all_dropped)
 
 -- scores are counted by the bytes that are as large as the least one with such a score
 counted : (e : Encoding) (score least : ℕ) →
@@ -21,9 +18,7 @@ counted : (e : Encoding) (score least : ℕ) →
     count_by (nat_le least) qual ≡ count_by (nat_le score) (scores e qual)
 counted e score least same [] = refl
 counted e score least same (b ∷ others) =
-    sum_by-cons (λ (x : ℕ). cond (nat_le least x) 1 0) b others
-    ∙ ap₂ (λ one rest. cond one 1 0 + rest) (sym (same b)) (counted e score least same others)
-    ∙ sym (sum_by-cons (λ (x : ℕ). cond (nat_le score x) 1 0) (value_of e b) (scores e others))
+    grind (arith, common_steps, sum_by-cons, counted e score least same others)
 
 -- the counts are those of the bases of the part and of their scores
 pub returns : goal.returns

@@ -1,7 +1,7 @@
-use Rattle.std.proofs.Common.{◌∙◌, ap, arith}
-use Rattle.fq_report_reads.specs.Columns.{columns_plus}
+use Rattle.std.proofs.Common.{arith, ◌∙◌, ap}
 use Rattle.fq_report_reads.proofs.ColumnLemmas.{columns_empty, counted_next}
 use Rattle.fq_report_reads.proofs.columns.Columns.count.Goals as goal
+use Rattle.fq_report_reads.specs.Columns.{columns_plus}
 
 -- at first the columns have grown as far as the place of the first base, and no base is counted
 pub loop-i-init : goal.loop-i-init

@@ -5,6 +5,7 @@ use Rattle.fq_trim.proofs.PlaceLemmas.{all_taken, all_dropped}
 use Rattle.fq_report_reads.proofs.ColumnLemmas.{few_weaker}
 use Rattle.fq_report_reads.proofs.LaneLemmas.{scored_lanes, nothing_counted, vector_next, rest_next, all_counted, still_few}
 use Rattle.fq_report_reads.proofs.narrow_columns.NarrowColumns.count.Goals as goal
+use Rattle.std.proofs.lemmas.Grind.{common_steps}
 
 -- at first no base is counted
 pub loop-from-init : goal.loop-from-init
@@ -69,8 +70,4 @@ returns-then-from-seq c =
 
 -- if full vectors hold the read, all bases are counted
 pub returns-else-from-seq : goal.returns-else-from-seq
-returns-else-from-seq c =
-    all_counted c.args.self.now c.loop-from.self c.args.at c.loop-from.from c.args.encoding
-    c.args.seq.now c.args.qual.now c.loop-from.invariant.counted c.requires.same c.requires.near
-    c.requires.scored c.loop-from.invariant.within
-    c.if-from-seq.false
+returns-else-from-seq c = grind (arith, common_steps, all_counted)

@@ -1,35 +1,19 @@
 use Rattle.std.proofs.Common.{◌+◌, ◌-◌, List, ℕ, ◌++◌, length, drop, replicate, refl, ap, ◌∙◌, arith}
-use Rattle.std.specs.List.{list_all}
 use Rattle.std.proofs.lemmas.List.{take_rest}
-use Rattle.fq_text.specs.Scores.{is_scored}
 use Rattle.fq_trim.proofs.PlaceLemmas.{all_dropped}
-use Rattle.fq_report_reads.specs.Counting.{is_lane}
 use Rattle.fq_report_reads.proofs.LaneLemmas.{lanes_in_front, lanes_then_none, rest_in_last, rest_in_first}
 use Rattle.fq_report_reads.proofs.narrow_columns.NarrowColumns.count_rest.Goals as goal
+use Rattle.std.proofs.lemmas.Grind.{common_steps}
 
 -- zeros, and then the last quality bytes, are valid lanes
 pub add_vector-requires-clause-lanes : goal.add_vector-requires-clause-lanes
 add_vector-requires-clause-lanes c =
-    let e = c.args.encoding in
-    let qual = c.args.qual.now in
-    let start = length c.args.seq.now - 32 in
-    let k = 32 - (length c.args.seq.now - c.args.from) in
-    let all = all_dropped (is_scored e) (drop start qual) k
-    (all_dropped (is_scored e) qual start c.requires.scored) in
-    ap (list_all (is_lane e)) (c.last_of-bytes.ensures.lanes
-    ∙ ap (λ xs. replicate k 0 ++ drop k xs) (take_rest qual start))
-    ∙ lanes_in_front e k (drop k (drop start qual)) all
+    grind (arith, common_steps, all_dropped, take_rest, lanes_in_front)
 
 -- the last quality bytes, and then zeros, are valid lanes
 pub add_vector-requires-else-seq-ge-WIDTH-clause-lanes : goal.add_vector-requires-else-seq-ge-WIDTH-clause-lanes
 add_vector-requires-else-seq-ge-WIDTH-clause-lanes c =
-    let e = c.args.encoding in
-    let qual = c.args.qual.now in
-    let from = c.args.from in
-    let all = all_dropped (is_scored e) qual from c.requires.scored in
-    ap (list_all (is_lane e)) (c.all_of-bytes.ensures.lanes
-    ∙ ap (λ (xs : List ℕ). xs ++ replicate (32 - length xs) 0) (take_rest qual from))
-    ∙ lanes_then_none e (32 - length (drop from qual)) (drop from qual) all
+    grind (arith, common_steps, all_dropped, take_rest, lanes_then_none)
 
 -- of bases that fill a vector or more, the rest is counted from its last lanes
 pub returns-then-seq-ge-WIDTH : goal.returns-then-seq-ge-WIDTH
@@ -44,8 +28,8 @@ returns-then-seq-ge-WIDTH c =
     let less = c.requires.less in
     rest_in_last c.args.self.now c.add_vector.new.self c.args.at from start k c.args.encoding seq
     qual c.last_of-bases.result c.last_of-bytes.result (omega arith)
-    (c.last_of-bases.ensures.lanes ∙ ap (λ xs. replicate k 0 ++ drop k xs) (take_rest seq start))
-    (c.last_of-bytes.ensures.lanes ∙ ap (λ xs. replicate k 0 ++ drop k xs) (take_rest qual start))
+    (c.last_of-bases.ensures ∙ ap (λ xs. replicate k 0 ++ drop k xs) (take_rest seq start))
+    (c.last_of-bytes.ensures ∙ ap (λ xs. replicate k 0 ++ drop k xs) (take_rest qual start))
     c.requires.same c.requires.near some c.requires.scored c.add_vector.ensures
 
 -- of fewer bases, the rest is counted from the first lanes
@@ -62,7 +46,7 @@ returns-else-seq-ge-WIDTH c =
     (c.args.at + length qual + 32) c.args.at from (32 - length (drop from seq))
     (32 - length (drop from qual)) c.args.encoding seq qual c.all_of-bases.result
     c.all_of-bytes.result
-    (c.all_of-bases.ensures.lanes ∙ ap filled (take_rest seq from))
-    (c.all_of-bytes.ensures.lanes ∙ ap filled (take_rest qual from))
+    (c.all_of-bases.ensures ∙ ap filled (take_rest seq from))
+    (c.all_of-bytes.ensures ∙ ap filled (take_rest qual from))
     refl refl c.requires.same c.requires.near some (omega arith) c.requires.scored (omega arith)
     c.requires.few c.add_vector-else-seq-ge-WIDTH.ensures

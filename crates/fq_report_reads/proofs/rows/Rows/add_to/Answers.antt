@@ -5,22 +5,15 @@ use Rattle.fq_report_reads.specs.Rows.{rows_plus}
 use Rattle.fq_report_reads.proofs.RowLemmas.{grown_row}
 use Rattle.fq_report_reads.proofs.PositionLemmas.{more_at}
 use Rattle.fq_report_reads.proofs.rows.Rows.add_to.Goals as goal
+use Rattle.std.proofs.lemmas.Grind.{common_steps}
 
 -- the row can be read, since the rows have grown
 pub index-requires : goal.index-requires
-index-requires c = omega (
-  arith,
-  c.self.inside.counts.ok.0,
-  grown_row c.args.self.now c.self.inside.counts.items c.args.row (c.self.view_is ∙ c.grow.ensures),
-)
+index-requires c = grind (arith, common_steps, grown_row)
 
 -- the row can be written, since the rows have grown
 pub index_mut-requires : goal.index_mut-requires
-index_mut-requires c = omega (
-  arith,
-  c.self.inside.counts.ok.0,
-  grown_row c.args.self.now c.self.inside.counts.items c.args.row (c.self.view_is ∙ c.grow.ensures),
-)
+index_mut-requires c = grind (arith, common_steps, grown_row)
 
 -- the count is added to its row, and new rows before it count 0
 pub returns : goal.returns

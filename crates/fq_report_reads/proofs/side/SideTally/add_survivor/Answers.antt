@@ -11,6 +11,7 @@ use Rattle.fq_report_reads.specs.SideTallies.{with_bases, with_part}
 use Rattle.fq_report_reads.proofs.SideLemmas.{kept_counts, parts_are, survivor, few_bases}
 use Rattle.fq_report_reads.proofs.side.SideTally.add_survivor.Goals as goal
 use Rattle.fq_report_reads.proofs.side.SideTally.add_survivor.Goals.{then-mate_survives, else-mate_survives}
+use Rattle.std.proofs.lemmas.Grind.{common_steps}
 
 front_is : {now sum : ℕ} (old start : ℕ) → now ≡ old →
     sum ≡ min (now + start) 18446744073709551615 → sum ≡ capped_sum old start
@@ -22,15 +23,11 @@ behind_is old stop length is size_is sum_is = omega arith
 
 -- the whole read has no more bases than a valid read can have
 pub add-requires-clause-few : goal.add-requires-clause-few
-add-requires-clause-few c =
-    (few_bases (whole c.args.read.now) c.whole_bases-whole.result c.whole_bases-whole.ensures
-    c.title.ensures.lawful.seq_fits).0
+add-requires-clause-few c = grind (arith, common_steps, few_bases)
 
 -- the bases G or C of the whole read are no more than its bases
 pub add-requires-clause-among : goal.add-requires-clause-among
-add-requires-clause-among c =
-    (few_bases (whole c.args.read.now) c.whole_bases-whole.result c.whole_bases-whole.ensures
-    c.title.ensures.lawful.seq_fits).1
+add-requires-clause-among c = grind (arith, common_steps, few_bases)
 
 -- if the mate survives, the counts of what is left are those of a read of its length
 pub add-requires-then-mate_survives : goal.add-requires-then-mate_survives

@@ -2,25 +2,17 @@ use Rattle.std.proofs.Common.{◌≡◌, ℕ, ◌+◌, ◌-◌, ◌<◌, ◌≤�
 use Rattle.std.proofs.lemmas.Bool.{cond-true, cond-false, lt-ltb, le-ltb}
 use Rattle.std.proofs.lemmas.List.{append-nil, drop_all, length-set, length-take-le, length-drop, take_more_set}
 use Rattle.fq_text.specs.declared.encoding.Encoding.{Encoding}
-use Rattle.fq_text.specs.Scores.{is_scored}
-use Rattle.fq_trim.specs.declared.step.Step.{Step}
-use Rattle.fq_trim.specs.Keeping.{scores, places, only, kept, kept_of}
-use Rattle.fq_trim.specs.KeptPlaces.{kept_places}
+use Rattle.fq_trim.specs.Keeping.{scores, places, only, kept}
 use Rattle.fq_trim.proofs.PlaceLemmas.{all_taken, all_dropped}
-use Rattle.fq_report_reads.specs.Courses.{Course, alone, whole, course, course_of}
+use Rattle.fq_report_reads.specs.Courses.{Course, alone, whole, course_of}
 use Rattle.fq_report_reads.proofs.CourseLemmas.{cut, places_kept, places_dropped, cut_kept, cut_dropped, none_next, alone_length}
 use Rattle.fq_report_reads.proofs.trimmed.Trimmed.new.Goals as goal
 use Rattle.fq_report_reads.proofs.trimmed.Trimmed.new.Goals.{then-kept-stop, else-kept-stop}
+use Rattle.std.proofs.lemmas.Grind.{common_steps}
 
 -- each quality byte of what is left has a score
 pub trim_at-requires-clause-scored : goal.trim_at-requires-clause-scored
-trim_at-requires-clause-scored c =
-    let read = c.args.read.now in
-    let start = c.loop-number.start in
-    let all = all_taken (is_scored read.encoding) (drop start read.qual)
-    (c.loop-number.stop - start) (all_dropped (is_scored read.encoding) read.qual start
-    c.title.ensures.lawful.scores) in
-    rw (c.encoding-encoding.ensures, c.qual-qual.ensures) all
+trim_at-requires-clause-scored c = grind (arith, common_steps, all_taken, all_dropped)
 
 -- after a step that keeps bases, the steps to come complete what all do to the whole
 pub loop-number-preserved : goal.loop-number-preserved
@@ -102,61 +94,8 @@ loop-number-preserved c =
 
 -- what the step that drops the rest does
 pub returns-in-None : goal.returns-in-None
-returns-in-None c =
-    let read = c.args.read.now in
-    let steps = c.args.steps.now in
-    let number = c.loop-number.number in
-    let start = c.loop-number.start in
-    let stop = c.loop-number.stop in
-    let held = take c.loop-number.count c.loop-number.shortened in
-    let old = c.loop-number.invariant in
-    let same = c.title.ensures.lawful.same_len in
-    let all = ap length c.as_slice-number-end.ensures.steps in
-    let in_steps : number < length steps = omega arith in
-    let hand = cut start (stop - start) (whole read) in
-    let is : kept (only number steps) (scores read.encoding hand.qual) ≡ [] =
-    ap (λ (e : Encoding). kept (only number steps) (scores e hand.qual))
-    (sym c.encoding-encoding.ensures)
-    ∙ ap (λ (q : List ℕ). kept (only number steps)
-    (scores c.encoding-encoding.result (take (stop - start) (drop start q))))
-    (sym c.qual-qual.ensures)
-    ∙ c.in-None.ensures.kept in
-    let next = cut_dropped steps read number start stop in_steps old.order old.within same is in
-    let none : start - start ≡ 0 = omega arith in
-    let kept_is : places start (start - start) ≡ kept_places steps read = ap (places start) none
-    ∙ sym (places_dropped steps read number start stop in_steps old.order old.within same is)
-    ∙ old.kept in
-    let front = ap (λ (x : Course). x.front) next in
-    let in_front = old.front in
-    let front_is : start ≡ (course (alone steps) read).front = omega arith in
-    let shortened_is : held ≡ (course (alone steps) read).shortened = sym (append-nil held)
-    ∙ ap (λ (x : Course). held ++ x.shortened) (sym next) ∙ old.shortened in
-    let dropped_is : number ∷ [] ≡ (course (alone steps) read).dropped =
-    ap (λ (x : Course). x.dropped) (sym next) ∙ old.dropped in
-    cc
+returns-in-None c = grind (arith, common_steps, cut, cut_dropped, places_dropped, append-nil)
 
 -- after the last step nothing more is done
 pub returns : goal.returns
-returns c =
-    let read = c.args.read.now in
-    let steps = c.args.steps.now in
-    let number = c.loop-number.number in
-    let start = c.loop-number.start in
-    let stop = c.loop-number.stop in
-    let held = take c.loop-number.count c.loop-number.shortened in
-    let old = c.loop-number.invariant in
-    let all = ap length c.as_slice-number-end.ensures.steps in
-    let size = alone_length steps in
-    let next = none_next number (alone steps) (cut start (stop - start) (whole read))
-    (omega arith) in
-    let kept_is : places start (stop - start) ≡ kept_places steps read =
-    ap (λ (ss : List Step). kept_of ss (scores read.encoding read.qual)
-    (places start (stop - start))) (sym (drop_all number steps (omega arith))) ∙ old.kept in
-    let front = ap (λ (x : Course). x.front) next in
-    let in_front = old.front in
-    let front_is : start ≡ (course (alone steps) read).front = omega arith in
-    let shortened_is : held ≡ (course (alone steps) read).shortened = sym (append-nil held)
-    ∙ ap (λ (x : Course). held ++ x.shortened) (sym next) ∙ old.shortened in
-    let dropped_is : [] ≡ (course (alone steps) read).dropped =
-    ap (λ (x : Course). x.dropped) (sym next) ∙ old.dropped in
-    cc
+returns c = grind (arith, common_steps, alone_length, none_next, cut, drop_all, append-nil)
