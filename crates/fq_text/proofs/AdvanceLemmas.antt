@@ -1,5 +1,5 @@
 -- What a call of a reader of lines does.
-use Rattle.std.proofs.Common.{◌≡◌, ℕ, ◌+◌, ◌<◌, ◌≤◌, Bool, true, Result, Ok, Err, List, [], ◌∷◌, ◌++◌, length, take, drop, ap, sym, subst, ◌∙◌, arith, add-one, append_assoc, IsTrue, IfOk, IfErr, MatchResult, Some}
+use Rattle.std.proofs.Common.{◌≡◌, ℕ, ◌+◌, ◌<◌, ◌≤◌, Bool, true, Result, List, [], ◌∷◌, ◌++◌, length, take, drop, ap, ◌∙◌, arith, add-one, append_assoc, IsTrue, IfOk, IfErr, MatchResult, Some}
 use Rattle.std.proofs.lemmas.List.{append-nil, length-take, length-append, take_all, drop_all}
 use Rattle.std.proofs.lemmas.Grind.{common_steps}
 use Rattle.fq_text.specs.Devices.{FeedState}
@@ -16,8 +16,7 @@ pub judged_as : (r : Result Bool ReadError) (P : Bool → Type 0) (Q : ReadError
     IfOk r (λ more. (more ≡ true) × (n ≤ limit)) →
     IfErr r (λ e. (e ≡ error.Fault fault.TooLong) × (limit < n)) → (n ≤ limit → P true) →
     (limit < n → Q (error.Fault fault.TooLong)) → MatchResult r P Q
-judged_as (Ok more) P Q n ok err short long = subst P (sym ok.0) (short ok.1)
-judged_as (Err e) P Q n ok err short long = subst Q (sym err.0) (long err.1)
+judged_as r P Q n ok err short long = grind (arith, common_steps)
 
 module _ {F : Type 0} (state : F → FeedState) where
   -- a reader that has read nothing

@@ -7,7 +7,7 @@ use Rattle.std.proofs.lemmas.Bool.{cond-false, cases_Bool, and_parts, and_from, 
 use Rattle.std.proofs.lemmas.Grind.{common_steps}
 use Rattle.fq_text.specs.Scores.{is_scored}
 use Rattle.fq_text.specs.Lines.{pieces, without_cr, lines}
-use Rattle.fq_text.specs.Grammar.{limit, is_base, IsLawful, Front, End, Faulty, Found, Read, begins_with, before_plus, from_plus, quality_lines, after_quality, when, is_too_long, title_fault, sequence_fault, quality_fault, or_else, sequence_faults, quality_faults, unless_faulty, completed, from_plus_line, from_title_line, front}
+use Rattle.fq_text.specs.Grammar.{limit, is_base, IsLawful, Front, End, Found, Read, begins_with, before_plus, from_plus, quality_lines, after_quality, when, is_too_long, title_fault, sequence_fault, quality_fault, or_else, sequence_faults, quality_faults, unless_faulty, completed, from_plus_line, from_title_line, front}
 use Rattle.fq_text.specs.declared.encoding.Encoding.{Encoding}
 use Rattle.fq_text.specs.declared.fault.Fault.{Fault}
 use Rattle.fq_text.specs.declared.fault.Fault.TheVariants as fault
@@ -42,21 +42,17 @@ clean_lines text = clean_map (pieces text) (clean_pieces text)
 -- what a record without fault passed
 pub passed : (o : Option Fault) (found : Front) (r : Read) (ls : List (List ℕ)) →
     unless_faulty o found ≡ Found r ls → (o ≡ None) × (found ≡ Found r ls)
-passed None found r ls is = (refl, is)
-passed (Some f) found r ls is = absurd (let h : Faulty f ≡ Found r ls = is in cc)
+passed o found r ls is = grind (arith, common_steps)
 
 unfaulted : (b : Bool) (f : Fault) (o : Option Fault) → when b f o ≡ None → (b ≡ false) × (o ≡ None)
-unfaulted true f o is = absurd (let h : Some f ≡ None = is in cc)
-unfaulted false f o is = (refl, is)
+unfaulted b f o is = grind (arith, common_steps)
 
 both_none : (o p : Option Fault) → or_else o p ≡ None → (o ≡ None) × (p ≡ None)
-both_none None p is = (refl, is)
-both_none (Some f) p is = absurd (let h : Some f ≡ None = is in cc)
+both_none o p is = grind (arith, common_steps)
 
 begins-append : (m : ℕ) (l rest : List ℕ) → begins_with m l ≡ false → begins_with m rest ≡ false →
     begins_with m (l ++ rest) ≡ false
-begins-append m [] rest first then = then
-begins-append m (b ∷ bs) rest first then = first
+begins-append m l rest first then = grind (arith, common_steps)
 
 record Bases (n : ℕ) (bases : List ℕ) : Type 0 where
   fits : n + length bases ≤ limit
@@ -124,8 +120,7 @@ enough n (l ∷ ls) behind is = ⊎_elim
 -- only a record whose quality is complete is found, with the lines after it
 pub complete : (r s : Read) (o : Option (List (List ℕ))) (ls : List (List ℕ)) →
     completed r o ≡ Found s ls → (o ≡ Some ls) × (r ≡ s)
-complete r s None ls is = absurd (let h : Faulty fault.QualityShort ≡ Found s ls = is in cc)
-complete r s (Some ms) ls is = grind (arith, common_steps)
+complete r s o ls is = grind (arith, common_steps)
 
 module _ (encoding : Encoding) where
   record Quality (title bases : List ℕ) (r : Read) : Type 0 where
@@ -136,8 +131,7 @@ module _ (encoding : Encoding) where
 
   found_quality : (title bases : List ℕ) (ls : List (List ℕ)) (r : Read) (behind : List (List ℕ)) →
       from_plus_line encoding title bases ls ≡ Found r behind → Quality title bases r
-  found_quality title bases [] r behind is = grind (arith, common_steps)
-  found_quality title bases (plus ∷ ls) r behind is =
+  found_quality title bases ls r behind is =
       grind (arith, common_steps, passed, complete, sound_quality, enough)
 
   found_lawful : (b : ℕ) (bs : List ℕ) (ls : List (List ℕ)) (r : Read) (behind : List (List ℕ)) →

@@ -6,7 +6,7 @@ use Rattle.std.specs.List.{list_all}
 use Rattle.std.proofs.lemmas.Bool.{cases_Bool, and_parts, and_from, leb-true, eqb-true, agree_below, agree_below_at}
 use Rattle.std.proofs.lemmas.Grind.{common_steps}
 use Rattle.fq_text.specs.declared.encoding.Encoding.{Encoding}
-use Rattle.fq_text.specs.declared.encoding.Encoding.TheVariants.{Sanger, Illumina13, Solexa}
+use Rattle.fq_text.specs.declared.encoding.Encoding.TheVariants.{Sanger, Solexa}
 use Rattle.fq_text.specs.declared.encoding.TheConstants.{PHRED_OF_SOLEXA}
 use Rattle.fq_text.specs.Scores.{lowest, is_scored, phred_of_solexa, value_of, recoded, encoding_name, encoding_of, NamesAreInverse}
 
@@ -17,15 +17,11 @@ at_place p xs i all within = grind (arith, common_steps)
 
 -- no encoding has a score below byte 33
 pub low_base : (e : Encoding) → 33 ≤ lowest e
-low_base Sanger = omega arith
-low_base Illumina13 = omega arith
-low_base Solexa = omega arith
+low_base e = grind (arith, common_steps)
 
 -- a score is at most 93 in each encoding
 pub value_small : (e : Encoding) (b : ℕ) → is_scored e b ≡ true → value_of e b ≤ 93
-value_small Sanger b is = grind (arith, common_steps)
-value_small Illumina13 b is = grind (arith, common_steps)
-value_small Solexa b is = grind (arith, common_steps)
+value_small e b is = grind (arith, common_steps)
 
 -- the table in the code has this score for byte k + 59
 abbrev in_table : ℕ → Bool
@@ -62,9 +58,7 @@ all_recoded_scored e (b ∷ bs) all = let parts = and_parts _ _ all in
 
 -- an encoding is found by its name
 pub name_found : (e : Encoding) → encoding_of (encoding_name e) ≡ Some e
-name_found Sanger = refl
-name_found Illumina13 = refl
-name_found Solexa = refl
+name_found e = grind (arith, common_steps)
 
 -- a text that is taken for k is the name of k, and another is judged by the others
 name_or : (name : List ℕ) (k e : Encoding) (others : Option Encoding) →

@@ -1,6 +1,6 @@
 -- Bytes that are compared in a vector. The result of a comparison is 255 for each byte for which it
 -- holds, and 0 for the others.
-use Rattle.std.proofs.Common.{◌≡◌, ◌≤◌, ◌+◌, ◌*◌, ◌%◌, ◌^◌, ℕ, Bool, true, false, not, ◌&&◌, cond, ltb, leb, eqb, List, [], ◌∷◌, length, map, refl, ap, ap₂, ◌∙◌, arith}
+use Rattle.std.proofs.Common.{◌≡◌, ◌≤◌, ◌+◌, ◌*◌, ◌%◌, ◌^◌, ℕ, Bool, not, ◌&&◌, cond, ltb, leb, eqb, List, [], ◌∷◌, length, map, refl, ap, ap₂, ◌∙◌, arith}
 use Rattle.std.specs.List.{list_all}
 use Rattle.std.proofs.lemmas.List.{length-map}
 use Rattle.std.proofs.lemmas.Bool.{ne_eqb}
@@ -13,8 +13,7 @@ abbrev pub flag : Bool → ℕ
 flag b = cond b 255 0
 
 flag_top : (b : Bool) → top 7 (flag b) ≡ b
-flag_top true = refl
-flag_top false = refl
+flag_top b = grind (arith, common_steps)
 
 tops : (p : ℕ → Bool) (v : List ℕ) → map (top 7) (map (λ x. flag (p x)) v) ≡ map p v
 tops p [] = refl
@@ -31,16 +30,14 @@ twice : (m : ℕ) → eqb (2 * m) 0 ≡ eqb m 0
 twice m = grind (arith, common_steps)
 
 one_set : (b : Bool) (m : ℕ) → eqb (cond b 1 0 + 2 * m) 0 ≡ not b && eqb m 0
-one_set true m = ne_eqb (1 + 2 * m) 0 (λ e. omega arith)
-one_set false m = let zero : 0 + 2 * m ≡ 2 * m = omega arith in ap (λ n. eqb n 0) zero ∙ twice m
+one_set b m = grind (arith, common_steps, ne_eqb, eqb, twice)
 
 none_set : (p : ℕ → Bool) (v : List ℕ) → eqb (mask_l (map p v)) 0 ≡ list_all (λ x. not (p x)) v
 none_set p [] = refl
 none_set p (x ∷ xs) = one_set (p x) (mask_l (map p xs)) ∙ ap (λ b. not (p x) && b) (none_set p xs)
 
 not_not : (b : Bool) → not (not b) ≡ b
-not_not true = refl
-not_not false = refl
+not_not b = grind (arith, common_steps)
 
 none_by_mask : (p : ℕ → Bool) (v : List ℕ) {z : List ℕ} → length v ≤ 64 →
     z ≡ map (λ x. flag (p x)) v → not (not (eqb (mask_l (map (top 7) z) % 2 ^ 64) 0)) ≡ list_all

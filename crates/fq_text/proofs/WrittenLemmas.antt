@@ -46,8 +46,7 @@ plain_bases (b ∷ c ∷ bs) all = ap (λ xs. b ∷ xs) (plain_bases (c ∷ bs) 
 -- after a byte that is not CR, a line that does not end in CR still does not
 pub plain_behind : (b : ℕ) (l : List ℕ) → eqb b 13 ≡ false → without_cr l ≡ l →
     without_cr (b ∷ l) ≡ b ∷ l
-plain_behind b [] other plain = cond-false (eqb b 13) _ _ other
-plain_behind b (c ∷ cs) other plain = ap (λ xs. b ∷ xs) plain
+plain_behind b l other plain = grind (arith, common_steps, eqb)
 
 scored_base : (e : Encoding) (b : ℕ) → is_scored e b ≡ true → is_base b ≡ true
 scored_base e b is = grind (arith, common_steps)
@@ -127,8 +126,7 @@ to_quality end again r ls p =
     ∙ plus_goes r.encoding r.title r.seq (43 ∷ again) ls p.same
 
 nil_qual : (qual : List ℕ) → length qual ≡ 0 → qual ≡ []
-nil_qual [] none = refl
-nil_qual (b ∷ bs) none = absurd (omega arith)
+nil_qual qual none = grind (arith, common_steps)
 
 -- the lines begin with the record, and after it comes what the other lines begin with
 record StandsBefore (encoding : Encoding) (read : Read) (ls others : List (List ℕ)) : Type 0 where
@@ -198,9 +196,7 @@ reads_lawful r text lawful plain =
 -- recoding keeps a record valid
 lawful_as_written : (recode : Option Encoding) (r : Read) → IsLawful r → CanRecode recode r.qual →
     IsLawful (as_written recode r)
-lawful_as_written None r lawful can = lawful
-lawful_as_written (Some e) r lawful can =
-    grind (arith, common_steps, length-map, all_recoded_scored)
+lawful_as_written recode r lawful can = grind (arith, common_steps, length-map, all_recoded_scored)
 
 -- a valid record whose title does not end in CR reads back, recoded or not, before any text
 pub reads_back : ReadsBack
