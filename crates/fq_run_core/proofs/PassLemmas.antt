@@ -1,5 +1,6 @@
 -- From the feeds to the outlets.
-use Rattle.std.proofs.Common.{◌≡◌, false, Option, Some, None, [], ◌++◌, refl, sym, ap, subst, ◌∙◌}
+use Rattle.std.proofs.Common.{arith, ◌≡◌, false, Option, Some, None, [], ◌++◌, refl, sym, ap}
+use Rattle.std.proofs.lemmas.Grind.{common_steps}
 use Rattle.fq_pair.specs.declared.out.Out.{Out}
 use Rattle.fq_pair.specs.Outputs.{text_of, texts_of}
 use Rattle.fq_run_core.specs.declared.halt.Halt.{Halt}
@@ -62,17 +63,13 @@ runs_refused form c f r f' r' o counted same also none =
 pub passes_unasked : (c : Choices) (old : SourceState) (o : OutletStates) (total : Total)
     (w : Written) → old.last ≡ None → w ≡ nothing_written → total ≡ w.total →
     Passes c old old o o total no_halt w.why w.failed
-passes_unasked c old o total w goes is same =
-    let P : Written → Type 0 = λ x. Passes c old old o o total no_halt x.why x.failed in
-    subst P (sym is) (passes_refused c old o total goes (same ∙ ap (λ (x : Written). x.total) is))
+passes_unasked c old o total w goes is same = grind (arith, common_steps, passes_refused)
 
 -- `nothing_written` is the right result of a run if its feeds and outlets are as they were
 pub runs_nothing : (form : Form) (c : Choices) (f r f' r' : FeedState) (o : OutletStates)
     (w : Written) → w ≡ nothing_written → f' ≡ f → r' ≡ r →
     Runs form c f r f' r' o o w.total no_halt w.why w.failed
-runs_nothing form c f r f' r' o w is same also =
-    let P : Written → Type 0 = λ x. Runs form c f r f' r' o o x.total no_halt x.why x.failed in
-    subst P (sym is) (runs_refused form c f r f' r' o (no_total false) same also refl)
+runs_nothing form c f r f' r' o w is same also = grind (arith, common_steps, runs_refused)
 
 -- what was read from a fresh source and written
 pub runs_passed : (form : Form) (c : Choices) (f r f' r' : FeedState) (old new : SourceState)
@@ -82,5 +79,4 @@ pub runs_passed : (form : Form) (c : Choices) (f r f' r' : FeedState) (old new :
     Passes c old new before after counted halt why failed →
     Runs form c f r f' r' before after counted halt why failed
 runs_passed form c f r f' r' old new before after counted halt why failed is first second p =
-    let P : SourceState → Type 0 = λ s. Passes c s new before after counted halt why failed in
-    record { new = new; passes = subst P is p; forward = first; reverse = second }
+    grind (arith, common_steps)
