@@ -1,6 +1,5 @@
 -- The texts of one pair after others.
-use Rattle.std.proofs.Common.{arith, ◌≡◌, ℕ, ◌&&◌, Bool, not, if◌then◌else◌, Option, Some, List, [], ◌∷◌, ◌++◌, length, flat_map, append_assoc, ap, ap₂, sym, ◌∙◌}
-use Rattle.std.proofs.lemmas.List.{append-nil}
+use Rattle.std.proofs.Common.{arith, ◌≡◌, ℕ, ◌&&◌, Bool, not, if◌then◌else◌, Option, Some, List, [], ◌∷◌, ◌++◌, length, flat_map, ap₂}
 use Rattle.std.proofs.lemmas.Grind.{common_steps}
 use Rattle.fq_trim.specs.declared.step.Step.{Step}
 use Rattle.fq_trim.specs.declared.trimming.Kept.{Kept}

@@ -1,5 +1,5 @@
 -- What a call of a source of pairs returns, in terms of the source's state.
-use Rattle.std.proofs.Common.{arith, ◌≡◌, ◌+◌, ◌*◌, Bool, true, false, [], ◌∷◌, Option, Some, None, Result, Ok, Err, IfErr, refl, ap, ◌∙◌}
+use Rattle.std.proofs.Common.{arith, ◌≡◌, ◌+◌, Bool, true, false, [], ◌∷◌, Option, None, Result, Ok, Err, IfErr, refl}
 use Rattle.std.specs.Option.{IfSome, IsSomeAnd}
 use Rattle.std.proofs.lemmas.Grind.{common_steps}
 use Rattle.fq_text.specs.Devices.{FeedState}

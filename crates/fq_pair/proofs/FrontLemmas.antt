@@ -1,10 +1,9 @@
 -- What comes first in a list of lines also comes first if more lines follow.
 use Rattle.std.proofs.Common.{◌≡◌, ℕ, ◌-◌, ◌<◌, true, eqb, Some, None, List, [], ◌∷◌, ◌++◌, length, refl, ap, sym, ◌∙◌, arith, ⊎_elim}
-use Rattle.std.specs.List.{concat}
 use Rattle.std.proofs.lemmas.Bool.{cond-true, cond-false, cases_Bool}
 use Rattle.std.proofs.lemmas.Grind.{common_steps}
 use Rattle.fq_text.specs.declared.encoding.Encoding.{Encoding}
-use Rattle.fq_text.specs.Grammar.{Read, Found, front, begins_with, before_plus, from_plus, quality_lines, after_quality, title_fault, plus_fault, quality_faults, sequence_faults, unless_faulty, completed, from_quality_lines, from_plus_line, from_title_line}
+use Rattle.fq_text.specs.Grammar.{Read, Found, front, before_plus, from_plus, quality_lines, after_quality, from_quality_lines, from_plus_line, from_title_line}
 use Rattle.fq_text.proofs.LawfulLemmas.{passed, complete}
 
 module _ (more : List (List ℕ)) where

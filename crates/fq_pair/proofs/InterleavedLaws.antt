@@ -6,7 +6,7 @@ use Rattle.std.proofs.lemmas.List.Sums.{take_while-cons}
 use Rattle.std.proofs.lemmas.Grind.{common_steps}
 use Rattle.fq_text.specs.Devices.{FeedState}
 use Rattle.fq_text.specs.declared.encoding.Encoding.{Encoding}
-use Rattle.fq_text.specs.Grammar.{Read, Front, End, Faulty, Found, front}
+use Rattle.fq_text.specs.Grammar.{Read, Front, front}
 use Rattle.fq_text.specs.Lines.{lines}
 use Rattle.fq_text.specs.Records.{Records, with_first, from_front}
 use Rattle.fq_text.specs.Sources.{rest_in}

@@ -1,11 +1,11 @@
 -- The end of a mate's name in its title.
-use Rattle.std.proofs.Common.{◌≡◌, ℕ, zero, suc, ◌-◌, ◌<◌, ◌≤◌, true, false, eqb, nat_eq, Option, Some, None, unwrap_or, List, [], ◌∷◌, length, take, get_or, zero-le, refl, ap, sym, ◌∙◌, arith, inl, inr}
-use Rattle.std.specs.List.{before_first, position_or_len, ends_with}
+use Rattle.std.proofs.Common.{◌≡◌, ℕ, ◌-◌, ◌<◌, ◌≤◌, true, false, eqb, Option, Some, None, unwrap_or, List, length, take, get_or, zero-le, ap, sym, ◌∙◌, arith, inl, inr}
+use Rattle.std.specs.List.{before_first, position_or_len}
 use Rattle.std.specs.Str.{bytes_eq}
-use Rattle.std.proofs.lemmas.Bool.{cond_both, cases_lt, false_from_ne_true}
+use Rattle.std.proofs.lemmas.Bool.{cases_lt, false_from_ne_true}
 use Rattle.std.proofs.lemmas.Bool.Decides.{same_from_decides, Decides-eqb, Decides-like}
 use Rattle.std.proofs.lemmas.Grind.{common_steps, same_number_lists}
-use Rattle.std.proofs.lemmas.List.{length-take, get_or-take, take-take}
+use Rattle.std.proofs.lemmas.List.{length-take, get_or-take}
 use Rattle.std.proofs.Math.Seq.{take-length}
 use Rattle.std.proofs.lemmas.Slice.Eq.{bytes_eq-Decides}
 use Rattle.std.proofs.lemmas.List.Sums.{position_or_len_is, fails_before_first}

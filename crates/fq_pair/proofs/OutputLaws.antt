@@ -1,12 +1,9 @@
 -- The texts of a list of pairs are those of its front followed by those of its rest.
-use Rattle.std.proofs.Common.{arith, ◌≡◌, ◌+◌, Bool, List, [], ◌∷◌, ◌++◌, length, filter, flat_map, refl, ap, sym, ◌∙◌, append_assoc, add_assoc, ⊎_elim}
-use Rattle.std.proofs.lemmas.List.{length-append}
-use Rattle.std.proofs.lemmas.List.Concat.{flat_map-append}
-use Rattle.std.proofs.lemmas.Bool.{cond-true, cond-false, cases_Bool}
+use Rattle.std.proofs.Common.{arith, ◌≡◌, ◌+◌, List, ◌++◌}
 use Rattle.std.proofs.lemmas.Grind.{common_steps}
 use Rattle.fq_trim.specs.declared.step.Step.{Step}
 use Rattle.fq_pair.specs.Mates.{Mates}
-use Rattle.fq_pair.specs.Outputs.{Outputs, record_text, log_lines, both_survive, forward_alone, reverse_alone, none_survive, forward_records, reverse_records, counts_of, texts_of, sum_of, joined}
+use Rattle.fq_pair.specs.Outputs.{Outputs, texts_of, joined}
 
 module _ (steps : List Step) (xs ys : List Mates) where
   -- the texts of two lists of pairs, one after the other

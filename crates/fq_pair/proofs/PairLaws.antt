@@ -4,7 +4,7 @@ use Rattle.std.proofs.lemmas.Bool.{cond-true, cond-false, cases_Bool}
 use Rattle.std.proofs.lemmas.List.Sums.{take_while-cons}
 use Rattle.std.proofs.lemmas.Grind.{common_steps}
 use Rattle.fq_text.specs.declared.encoding.Encoding.{Encoding}
-use Rattle.fq_text.specs.Grammar.{Read, Front, End, Faulty, Found, front}
+use Rattle.fq_text.specs.Grammar.{Read, Front, front}
 use Rattle.fq_text.specs.Records.{Records, with_first, from_front, records_within}
 use Rattle.fq_text.proofs.RecordsLemmas.{fewer_lines, room_enough}
 use Rattle.fq_pair.specs.declared.fault.InputFault.{InputFault}

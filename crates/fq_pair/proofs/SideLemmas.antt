@@ -1,12 +1,12 @@
 -- One side of a source of pairs, in three states one after the other, and the records of pairs.
-use Rattle.std.proofs.Common.{◌≡◌, ℕ, ◌+◌, ◌-◌, ◌≤◌, ◌⊎◌, inl, inr, ⊎_elim, true, false, IsTrue, List, [], ◌++◌, length, take, refl, ap, sym, ◌∙◌, arith, append_assoc}
-use Rattle.std.proofs.lemmas.List.{append_cancel_left, append_cancel_right, length-append, length-take-le, nil_from_length, take_at}
+use Rattle.std.proofs.Common.{◌≡◌, ℕ, ◌+◌, ◌-◌, ◌≤◌, ◌⊎◌, inl, inr, ⊎_elim, true, false, IsTrue, List, [], ◌++◌, length, ap, sym, ◌∙◌, arith, append_assoc}
+use Rattle.std.proofs.lemmas.List.{append_cancel_left, append_cancel_right, length-append, length-take-le, nil_from_length}
 use Rattle.std.proofs.lemmas.Grind.{common_steps}
 use Rattle.fq_text.specs.Devices.{FeedState}
 use Rattle.fq_text.specs.Lines.{lines, is_whole, whole_part}
 use Rattle.fq_text.proofs.LineLemmas.{lines-append, whole-append}
 use Rattle.fq_pair.specs.Mates.{Mates}
-use Rattle.fq_pair.specs.Forms.{Form, TwoTexts, InterleavedText, records_of_pairs}
+use Rattle.fq_pair.specs.Forms.{Form, records_of_pairs}
 use Rattle.fq_text.specs.Sources.{Sourced, rest_in, IsTail, KeepsCount}
 use Rattle.fq_pair.specs.Walks.{SideState, side_state, SourceState, rest, fed, came, Draws, Uses, Walks}
 use Rattle.fq_pair.proofs.WholeLemmas.{behind_whole, whole_split, is_whole-whole_part, whole_part-whole}
@@ -113,11 +113,6 @@ module _ (old mid new : SideState) (n : ℕ) (a : Draws old mid 0) (b : Draws mi
   pub lines_behind : mid.ended ≡ false → lines (rest mid) ≡ lines
       (whole_part (came mid new)) ++ more_lines
   lines_behind going = grind (arith, common_steps, behind_used)
-
--- the records of two lists of pairs, one after the other
-pub records_then : (form : Form) (m n : ℕ) →
-    records_of_pairs form (m + n) ≡ records_of_pairs form m + records_of_pairs form n
-records_then form m n = grind (arith, common_steps)
 
 -- at least a forward record was given for each pair
 pub walked_records : (old new : SourceState) (ms : List Mates) → Walks old new ms →

@@ -1,5 +1,5 @@
 -- The pairs that are left to a source of two texts, by what comes first in them.
-use Rattle.std.proofs.Common.{arith, ◌≡◌, ℕ, suc, ◌+◌, Bool, not, ◌||◌, true, IsTrue, Option, Some, None, MatchOption, Err, List, refl, ap, sym, subst, rules, ◌∙◌, add-one}
+use Rattle.std.proofs.Common.{arith, ◌≡◌, ℕ, suc, ◌+◌, Bool, not, ◌||◌, true, IsTrue, Option, Some, MatchOption, Err, List, refl, ap, sym, subst, rules, ◌∙◌, add-one}
 use Rattle.std.specs.Option.{IsSome, IsSomeAnd}
 use Rattle.std.proofs.lemmas.Bool.{cond-true}
 use Rattle.std.proofs.lemmas.Grind.{common_steps}

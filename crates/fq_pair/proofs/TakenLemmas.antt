@@ -6,7 +6,6 @@ use Rattle.std.proofs.lemmas.List.{append_cancel_right}
 use Rattle.std.proofs.lemmas.Grind.{common_steps}
 use Rattle.fq_text.specs.declared.encoding.Encoding.{Encoding}
 use Rattle.fq_text.specs.Grammar.{Read, Found, front, begins_with, before_plus, from_plus, quality_lines, after_quality, title_fault, plus_fault, quality_faults, sequence_faults, unless_faulty, completed, from_quality_lines, from_plus_line}
-use Rattle.fq_text.specs.Records.{Records, from_front}
 use Rattle.fq_text.proofs.LawfulLemmas.{passed, complete}
 use Rattle.fq_pair.proofs.FrontLemmas.{no_quality}
 use Rattle.fq_pair.proofs.PairLaws.{records_of, records_of-front}

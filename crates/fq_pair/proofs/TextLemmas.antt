@@ -1,11 +1,10 @@
 -- What is left of a read: the numbers of its log line, and its record.
-use Rattle.std.proofs.Common.{◌≡◌, ℕ, zero, suc, ◌+◌, ◌-◌, ◌<◌, ◌≤◌, Bool, true, false, Some, List, [], ◌∷◌, length, take, drop, ap, sym, ◌∙◌, arith}
+use Rattle.std.proofs.Common.{◌≡◌, ℕ, ◌+◌, ◌-◌, ◌<◌, ◌≤◌, Bool, Some, List, [], ◌∷◌, length, take, drop, arith}
 use Rattle.std.specs.Bool.{then_some}
 use Rattle.std.proofs.lemmas.Grind.{common_steps}
 use Rattle.fq_trim.specs.declared.trimming.Kept.{Kept}
 use Rattle.fq_trim.specs.Keeping.{places}
 use Rattle.fq_trim.proofs.PlaceLemmas.{length-places, scores_at, all_taken, all_dropped}
-use Rattle.fq_text.specs.Scores.{is_scored}
 use Rattle.fq_text.specs.Grammar.{Read, IsLawful}
 use Rattle.fq_text.specs.Written.{written, written_quality, CanRecode}
 use Rattle.fq_trim.specs.KeptPlaces.{bytes_at, places_of, IsWithin}

@@ -1,8 +1,7 @@
 -- The whole lines of a text, and what comes after them.
-use Rattle.std.proofs.Common.{arith, ◌≡◌, ℕ, ⊎_elim, true, false, cond, eqb, Bool, List, [], ◌∷◌, ◌++◌, ap, refl, sym, ◌∙◌}
+use Rattle.std.proofs.Common.{arith, ◌≡◌, ℕ, true, false, cond, eqb, Bool, List, [], ◌∷◌, ◌++◌, refl}
 use Rattle.std.specs.List.{list_any}
-use Rattle.std.proofs.lemmas.Bool.{cond-true, cond-false, cases_Bool, or_left, or_right, or_from}
-use Rattle.std.proofs.lemmas.List.Folds.{list_any-append}
+use Rattle.std.proofs.lemmas.Bool.{cond-true, cond-false, cases_Bool, or_left}
 use Rattle.std.proofs.lemmas.Grind.{common_steps}
 use Rattle.fq_text.specs.Lines.{is_whole, whole_part}
 
