@@ -21,10 +21,10 @@ IMPORT = re.compile(r" *(?:ghost |pub )*use Rattle\.([\w.-]+?)(?:\.\{([^}]*)\}| 
 # A declaration of a record or of anything else, or an equation: its kind, its name, and ' :'.
 LINE = re.compile(r" *(?:(?:abbrev|rec|pub) )*(?:(record|data) )?([A-Za-z_][^\s(){}\[\],;.:]*)( :(?= |$))?")
 ALONE = 80
-# Crates, and one function, whose lemmas are not yet with the function that alone needs them.
+# Crates whose lemmas are not yet with the function that alone needs them.
 NOT_YET = (
     "fq_app/", "fq_app_words/", "fq_files/", "fq_app_files/", "fq_law_runs/", "fq_prog/", "fq_report_reads/",
-    "fq_app_reasons/", "fq_run/", "fq_run_core/", "fq_report_pairs/", "fq_work/", "fq_pair/proofs/texts/Texts/add_kept/",
+    "fq_app_reasons/", "fq_run/", "fq_report_pairs/", "fq_work/",
 )
 
 

@@ -1,6 +1,6 @@
 -- The texts of one pair after others.
-use Rattle.std.proofs.Common.{◌≡◌, ℕ, ◌&&◌, Bool, not, if◌then◌else◌, Option, Some, List, [], ◌∷◌, ◌++◌, length, flat_map, append_assoc, ap, ap₂, sym, ◌∙◌}
-use Rattle.std.proofs.lemmas.List.{append-nil}
+use Rattle.std.proofs.Common.{arith, ◌≡◌, ℕ, ◌&&◌, Bool, not, if◌then◌else◌, Option, Some, List, [], ◌∷◌, ◌++◌, length, flat_map, ap₂}
+use Rattle.std.proofs.lemmas.Grind.{common_steps}
 use Rattle.fq_trim.specs.declared.step.Step.{Step}
 use Rattle.fq_trim.specs.declared.trimming.Kept.{Kept}
 use Rattle.fq_trim.specs.Keeping.{recodes}
@@ -16,16 +16,7 @@ use Rattle.fq_pair.specs.Outputs.{Outputs, record_at, record_text, log_line_of, 
 pub same_outputs : (s t : Outputs) → s.forward_paired ≡ t.forward_paired →
     s.forward_unpaired ≡ t.forward_unpaired → s.reverse_paired ≡ t.reverse_paired
     → s.reverse_unpaired ≡ t.reverse_unpaired → s.log ≡ t.log → s.counts ≡ t.counts → s ≡ t
-same_outputs s t a b c d e f =
-    let parts : Outputs → Outputs = λ (o : Outputs). record {
-      forward_paired = o.forward_paired;
-      forward_unpaired = o.forward_unpaired;
-      reverse_paired = o.reverse_paired;
-      reverse_unpaired = o.reverse_unpaired;
-      log = o.log;
-      counts = o.counts;
-    } in
-    let same : parts s ≡ parts t = cc in same
+same_outputs s t a b c d e f = grind (arith, common_steps)
 
 -- a text after a record was appended
 pub text_with : (old room new : List ℕ) (recode : Bool) (steps : List Step) (o : Option Kept)
@@ -34,12 +25,7 @@ pub text_with : (old room new : List ℕ) (recode : Bool) (steps : List Step) (o
     → recode ≡ recodes steps → kept_places steps read ≡ places_of o → o ≡ Some k →
     new ≡ old ++ (record_text steps read ++ [])
 text_with old room new recode steps o k read same put recodes_is is some_is =
-    put ∙ ap (λ (xs : List ℕ). xs ++ record_at recode (places_of (Some k)) read)
-    (same ∙ append-nil old)
-    ∙ ap (λ (b : Bool). old ++ record_at b (places_of (Some k)) read) recodes_is
-    ∙ ap (λ (xs : List ℕ). old ++ record_at (recodes steps) xs read) (sym (is
-    ∙ ap places_of some_is))
-    ∙ ap (λ (xs : List ℕ). old ++ xs) (sym (append-nil (record_text steps read)))
+    grind (arith, common_steps)
 
 -- a log after a line was appended
 pub log_with : (old room new : List ℕ) (side : Side) (steps : List Step) (o : Option Kept)
@@ -49,10 +35,7 @@ pub log_with : (old room new : List ℕ) (side : Side) (steps : List Step) (o : 
     kept_places steps read ≡ places_of o →
     new ≡ old ++ log_line side (kept_places steps read) read
 log_with old room new side steps o read name bases same put named counted is =
-    put ∙ ap (λ (xs : List ℕ). xs ++ log_line_of name bases (places_of o)) same
-    ∙ ap (λ (xs : List ℕ). old ++ log_line_of xs bases (places_of o)) named
-    ∙ ap (λ (n : ℕ). old ++ log_line_of (name_of side read.title) n (places_of o)) counted
-    ∙ ap (λ (xs : List ℕ). old ++ log_line side xs read) (sym is)
+    grind (arith, common_steps)
 
 -- a log with the lines of a pair
 abbrev pub with_lines : List Step → Mates → List ℕ → List ℕ
@@ -62,24 +45,13 @@ with_lines steps m log = (log ++ log_line Forward (kept_places steps m.forward) 
 -- these are the lines that a pair adds
 pub lines_added : (steps : List Step) (m : Mates) (log : List ℕ) →
     with_lines steps m log ≡ log ++ flat_map (log_lines steps) (m ∷ [])
-lines_added steps m log =
-    append_assoc log (log_line Forward (kept_places steps m.forward) m.forward)
-    (log_line Reverse (kept_places steps m.reverse) m.reverse)
-    ∙ ap (λ (xs : List ℕ). log ++ xs) (sym (append-nil (log_lines steps m)))
+lines_added steps m log = grind (arith, common_steps)
 
 -- counts with the same parts
 pub same_counts : (m n : Counts) → m.pairs ≡ n.pairs → m.both ≡ n.both →
     m.forward_only ≡ n.forward_only → m.reverse_only ≡ n.reverse_only → m.dropped ≡ n.dropped →
     m ≡ n
-same_counts m n a b c d e =
-    let parts : Counts → Counts = λ (k : Counts). record {
-      pairs = k.pairs;
-      both = k.both;
-      forward_only = k.forward_only;
-      reverse_only = k.reverse_only;
-      dropped = k.dropped;
-    } in
-    let same : parts m ≡ parts n = cc in same
+same_counts m n a b c d e = grind (arith, common_steps)
 
 module _ (steps : List Step) (m : Mates) where
   -- the pair, if this holds

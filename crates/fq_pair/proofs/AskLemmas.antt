@@ -1,6 +1,7 @@
 -- What a call of a source of pairs returns, in terms of the source's state.
-use Rattle.std.proofs.Common.{◌≡◌, ◌+◌, ◌*◌, Bool, true, false, [], ◌∷◌, Option, Some, None, Result, Ok, Err, IfErr, refl, ap, ◌∙◌}
+use Rattle.std.proofs.Common.{arith, ◌≡◌, ◌+◌, Bool, true, false, [], ◌∷◌, Option, None, Result, Ok, Err, IfErr, refl}
 use Rattle.std.specs.Option.{IfSome, IsSomeAnd}
+use Rattle.std.proofs.lemmas.Grind.{common_steps}
 use Rattle.fq_text.specs.Devices.{FeedState}
 use Rattle.fq_text.specs.Lines.{lines}
 use Rattle.fq_text.specs.Sources.{rest_in}
@@ -16,30 +17,18 @@ use Rattle.fq_pair.proofs.SideLemmas.{drawn, used}
 -- what holds of a value that is there
 some_and : {A : Type 0} (o : Option A) (P Q : A → Type 0) → ((x : A) → P x → Q x) → IsSomeAnd o P →
     IsSomeAnd o Q
-some_and None P Q then held = held
-some_and (Some x) P Q then held = then x held
+some_and o P Q then held = grind (arith, common_steps)
 
 -- what holds of the current pair, if there is one only after a further pair was returned
 pub if_current : (o : Option Mates) (r : Result Bool InputFault) (P Q : Mates → Type 0) →
     ((m : Mates) → P m → Q m) → (r ≡ Ok true → IsSomeAnd o P) → (r ≡ Ok false → o ≡ None) →
     IfErr r (λ why. o ≡ None) → IfSome o Q
-if_current None r P Q then found end fault = tt
-if_current (Some m) (Ok true) P Q then found end fault = then m (found refl)
-if_current (Some m) (Ok false) P Q then found end fault = absurd (let h = end refl in cc)
-if_current (Some m) (Err why) P Q then found end fault = absurd (let h = fault in cc)
+if_current o r P Q then found end fault = grind (arith, common_steps)
 
 module _ {F G : Type 0} (state : F → FeedState) (state' : G → FeedState) where
   same_settings : (old new : PairSourced F G) → KeepsCounts state state' old new →
       KeepsSettings (source_state state state' old) (source_state state state' new)
-  same_settings old new k =
-      let f = k.forward in
-      record {
-        form = refl;
-        encoding = f.encoding;
-        check_names = k.check_names;
-        most_bytes = ap (λ n. n * new.forward.chunk) f.max_reads
-            ∙ ap (λ n. old.forward.max_reads * n) f.chunk;
-      }
+  same_settings old new k = grind (arith, common_steps)
 
   -- what a source that goes on returns
   pub advances : (old new : PairSourced F G) (r : Result Bool InputFault) →
@@ -71,41 +60,14 @@ module _ {F G : Type 0} (state : F → FeedState) (state' : G → FeedState) whe
           (refl, refl),
         );
       }) (found refl)
-  advances old new (Ok false) found end fault ff fr k =
-      let e = end refl in (
-        record {
-          forward = drawn state old.forward new.forward 0 k.forward ff;
-          reverse = drawn state' old.reverse new.reverse 0 k.reverse fr;
-          end_is = e.end_is;
-        },
-        e.current,
-      )
-  advances old new (Err why) found end fault ff fr k = (
-    record {
-      forward = drawn state old.forward new.forward _ k.forward ff;
-      reverse = drawn state' old.reverse new.reverse _ k.reverse fr;
-      fault_is = fault.fault_is;
-      lacks = fault.lacks;
-      next = λ one. absurd cc;
-      going = λ one. absurd cc;
-      endless = fault.endless;
-    },
-    fault.current,
-  )
+  advances old new (Ok false) found end fault ff fr k = grind (arith, common_steps)
+  advances old new (Err why) found end fault ff fr k = grind (arith, common_steps)
 
 -- What a source of an interleaved text returns.
 module _ {F : Type 0} (state : F → FeedState) where
   same_interleaved : (old new : InterleavedSourced F) → interleaved.KeepsCounts state old new →
       KeepsSettings (interleaved_state state old) (interleaved_state state new)
-  same_interleaved old new k =
-      let s = k.source in
-      record {
-        form = refl;
-        encoding = s.encoding;
-        check_names = k.check_names;
-        most_bytes = ap (λ n. n * new.source.chunk) s.max_reads
-            ∙ ap (λ n. old.source.max_reads * n) s.chunk;
-      }
+  same_interleaved old new k = grind (arith, common_steps)
 
   -- what `advance` of an interleaved text promises, in the words of any source of pairs
   pub advances_interleaved : (old new : InterleavedSourced F) (r : Result Bool InputFault) →
@@ -134,20 +96,5 @@ module _ {F : Type 0} (state : F → FeedState) where
         reverse_used = λ told. used state old.source new.source (two.tail told);
         leads = λ told same. (ls, ls, given.pair_is told, (refl, refl));
       }) (found refl)
-  advances_interleaved old new (Ok false) found end fault failed k =
-      let e = end refl in
-      let at : Draws (side_state state old.source) (side_state state new.source) 0 =
-      drawn state old.source new.source 0 k.source failed in
-      (record { forward = at; reverse = at; end_is = λ told same. e.end_is told }, e.current)
-  advances_interleaved old new (Err why) found end fault failed k = (
-    record {
-      forward = drawn state old.source new.source _ k.source failed;
-      reverse = drawn state old.source new.source _ k.source failed;
-      fault_is = λ told same. fault.fault_is told;
-      lacks = λ cut told same. fault.lacks cut told;
-      next = λ one. fault.next;
-      going = λ one. fault.going;
-      endless = fault.endless;
-    },
-    fault.current,
-  )
+  advances_interleaved old new (Ok false) found end fault failed k = grind (arith, common_steps)
+  advances_interleaved old new (Err why) found end fault failed k = grind (arith, common_steps)

@@ -1,9 +1,9 @@
 -- What comes first in a list of lines also comes first if more lines follow.
 use Rattle.std.proofs.Common.{◌≡◌, ℕ, ◌-◌, ◌<◌, true, eqb, Some, None, List, [], ◌∷◌, ◌++◌, length, refl, ap, sym, ◌∙◌, arith, ⊎_elim}
-use Rattle.std.specs.List.{concat}
 use Rattle.std.proofs.lemmas.Bool.{cond-true, cond-false, cases_Bool}
+use Rattle.std.proofs.lemmas.Grind.{common_steps}
 use Rattle.fq_text.specs.declared.encoding.Encoding.{Encoding}
-use Rattle.fq_text.specs.Grammar.{Read, Found, front, begins_with, before_plus, from_plus, quality_lines, after_quality, title_fault, plus_fault, quality_faults, sequence_faults, unless_faulty, completed, from_quality_lines, from_plus_line, from_title_line}
+use Rattle.fq_text.specs.Grammar.{Read, Found, front, before_plus, from_plus, quality_lines, after_quality, from_quality_lines, from_plus_line, from_title_line}
 use Rattle.fq_text.proofs.LawfulLemmas.{passed, complete}
 
 module _ (more : List (List ℕ)) where
@@ -11,11 +11,7 @@ module _ (more : List (List ℕ)) where
   pub no_quality : (n : ℕ) (ls : List (List ℕ)) → eqb n 0 ≡ true →
       (quality_lines n ls ≡ []) × (after_quality n ls ≡ Some ls)
   no_quality n [] none = (refl, cond-true (eqb n 0) (Some []) None none)
-  no_quality n (l ∷ ls) none = (
-    cond-true (eqb n 0) [] (l ∷ quality_lines (n - length l) ls) none,
-    cond-true (eqb n 0)
-        (Some (l ∷ ls)) (after_quality (n - length l) ls) none,
-  )
+  no_quality n (l ∷ ls) none = grind (arith, common_steps)
 
   quality_more : (n : ℕ) (ls rest : List (List ℕ)) → after_quality n ls ≡ Some rest →
       (quality_lines n (ls ++ more) ≡ quality_lines n ls)
@@ -52,82 +48,29 @@ module _ (more : List (List ℕ)) where
   from_plus_more : (ls : List (List ℕ)) → 0 < length (from_plus ls) →
       (before_plus (ls ++ more) ≡ before_plus ls) × (from_plus (ls ++ more) ≡ from_plus ls ++ more)
   from_plus_more [] some = absurd (omega arith)
-  from_plus_more (l ∷ ls) some = ⊎_elim
-      (λ plus. (
-        cond-true (begins_with 43 l) [] (l ∷ before_plus (ls ++ more)) plus
-            ∙ sym (cond-true (begins_with 43 l) [] (l ∷ before_plus ls) plus),
-        cond-true (begins_with 43 l) (l ∷ (ls ++ more)) (from_plus (ls ++ more)) plus
-            ∙ ap (λ ms. ms ++ more) (sym (cond-true (begins_with 43 l) (l ∷ ls) (from_plus ls)
-            plus)),
-      ))
-      (λ plain.
-      let same = cond-false (begins_with 43 l) (l ∷ ls) (from_plus ls) plain in
-      let len = ap length same in
-      let rest = from_plus_more ls (omega arith) in (
-        cond-false (begins_with 43 l) [] (l ∷ before_plus (ls ++ more)) plain
-            ∙ ap (λ ms. l ∷ ms) rest.0
-            ∙ sym (cond-false (begins_with 43 l) [] (l ∷ before_plus ls) plain),
-        cond-false (begins_with 43 l) (l ∷ (ls ++ more)) (from_plus (ls ++ more)) plain ∙ rest.1
-            ∙ ap (λ ms. ms ++ more) (sym same),
-      ))
-      (cases_Bool (begins_with 43 l))
+  from_plus_more (l ∷ ls) some = grind (arith, common_steps, from_plus_more ls)
 
   module _ (e : Encoding) (r : Read) (rest : List (List ℕ)) where
     quality_lines_more : (title bases : List ℕ) (ls : List (List ℕ)) →
         from_quality_lines e title bases ls ≡ Found r rest →
         from_quality_lines e title bases (ls ++ more) ≡ Found r (rest ++ more)
     quality_lines_more title bases ls is =
-        let n = length bases in
-        let read : List (List ℕ) → Read = λ qs. record {
-          encoding = e;
-          title = title;
-          seq =
-              bases;
-          qual = concat qs;
-        } in
-        let first = passed (quality_faults e n 0 (quality_lines n ls))
-        (completed (read (quality_lines n ls)) (after_quality n ls)) r rest is in
-        let second = complete (read (quality_lines n ls)) r (after_quality n ls) rest first.1 in
-        let longer = quality_more n ls rest second.0 in
-        ap (λ qs. unless_faulty (quality_faults e n 0 qs)
-        (completed (read qs) (after_quality n (ls ++ more)))) longer.0
-        ∙ ap (λ o. unless_faulty (quality_faults e n 0 (quality_lines n ls))
-        (completed (read (quality_lines n ls)) o)) longer.1
-        ∙ ap (λ o. unless_faulty o (Found (read (quality_lines n ls)) (rest ++ more))) first.0
-        ∙ ap (λ s. Found s (rest ++ more)) second.1
+        grind (arith, common_steps, passed, complete, quality_more)
 
     plus_line_more : (title bases : List ℕ) (ps : List (List ℕ)) →
         from_plus_line e title bases ps ≡ Found r rest →
         from_plus_line e title bases (ps ++ more) ≡ Found r (rest ++ more)
-    plus_line_more title bases [] is = absurd cc
-    plus_line_more title bases (plus ∷ ls) is =
-        let first = passed (plus_fault title plus) (from_quality_lines e title bases ls) r rest
-        is in
-        ap (λ o. unless_faulty o (from_quality_lines e title bases (ls ++ more))) first.0
-        ∙ quality_lines_more title bases ls first.1
+    plus_line_more title bases ps is = grind (arith, common_steps, passed, quality_lines_more)
 
     plus_there : (title bases : List ℕ) (ps : List (List ℕ)) →
         from_plus_line e title bases ps ≡ Found r rest → 0 < length ps
-    plus_there title bases [] is = absurd cc
-    plus_there title bases (plus ∷ ls) is = omega arith
+    plus_there title bases ps is = grind (arith, common_steps)
 
     title_line_more : (b : ℕ) (bs : List ℕ) (ls : List (List ℕ)) →
         from_title_line e (b ∷ bs) ls ≡ Found r rest →
         from_title_line e (b ∷ bs) (ls ++ more) ≡ Found r (rest ++ more)
     title_line_more b bs ls is =
-        let first = passed (title_fault (b ∷ bs)) _ r rest is in
-        let second = passed (sequence_faults 0 (before_plus ls)) _ r rest first.1 in
-        let longer =
-        from_plus_more ls (plus_there bs (concat (before_plus ls)) (from_plus ls) second.1) in
-        ap (λ o. unless_faulty o (unless_faulty (sequence_faults 0 (before_plus (ls ++ more)))
-        (from_plus_line e bs (concat (before_plus (ls ++ more))) (from_plus (ls ++ more)))))
-        first.0
-        ∙ ap (λ qs. unless_faulty (sequence_faults 0 qs)
-        (from_plus_line e bs (concat qs) (from_plus (ls ++ more)))) longer.0
-        ∙ ap (λ o. unless_faulty o (from_plus_line e bs (concat (before_plus ls)) (from_plus
-        (ls ++ more)))) second.0
-        ∙ ap (from_plus_line e bs (concat (before_plus ls))) longer.1
-        ∙ plus_line_more bs (concat (before_plus ls)) (from_plus ls) second.1
+        grind (arith, common_steps, passed, from_plus_more, plus_there, plus_line_more)
 
     -- a record that comes first also comes first if more lines follow, and leaves these too
     pub front_more : (ls : List (List ℕ)) → front e ls ≡ Found r rest →

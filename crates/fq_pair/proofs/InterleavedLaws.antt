@@ -3,9 +3,10 @@
 use Rattle.std.proofs.Common.{◌≡◌, ℕ, suc, ◌+◌, ◌*◌, Bool, Some, None, List, [], ◌∷◌, length, take_while, ap, sym, ◌∙◌, add-zero, add-one, arith, ⊎_elim}
 use Rattle.std.proofs.lemmas.Bool.{cond-true, cond-false, cases_Bool}
 use Rattle.std.proofs.lemmas.List.Sums.{take_while-cons}
+use Rattle.std.proofs.lemmas.Grind.{common_steps}
 use Rattle.fq_text.specs.Devices.{FeedState}
 use Rattle.fq_text.specs.declared.encoding.Encoding.{Encoding}
-use Rattle.fq_text.specs.Grammar.{Read, Front, End, Faulty, Found, front}
+use Rattle.fq_text.specs.Grammar.{Read, Front, front}
 use Rattle.fq_text.specs.Lines.{lines}
 use Rattle.fq_text.specs.Records.{Records, with_first, from_front}
 use Rattle.fq_text.specs.Sources.{rest_in}
@@ -71,26 +72,20 @@ module _ (check : Bool) (k : ℕ) (T : List (List ℕ) → Records) where
   -- after a forward mate
   one_found : (f : Read) (A : Front) → interleaved_pairs_of check k (with_first f (from_front T A))
       ≡ from_pair_front others (meeting_after check (suc k) f A)
-  one_found f End = none_up_to k (with_first f (from_front T End))
-  one_found f (Faulty x) = none_up_to k (with_first f (from_front T (Faulty x)))
-  one_found f (Found r ls) = two_found f r ls
+  one_found f A = grind (arith, common_steps, none_up_to, two_found)
 
 module _ (check : Bool) (e : Encoding) (k : ℕ) where
   by_front : (A : Front) → interleaved_pairs_of check k (from_front (records_of e) A)
       ≡ from_pair_front (λ fs rs. interleaved_pairs_of check (suc k) (records_of e fs))
       (interleaved_meeting check e (suc k) A)
-  by_front End = none_up_to k (from_front (records_of e) End)
-  by_front (Faulty x) = none_up_to k (from_front (records_of e) (Faulty x))
-  by_front (Found f ls) = ap (λ (x : Records). interleaved_pairs_of check k (with_first f x))
-      (records_of-front e ls) ∙ one_found check k (records_of e) f (front e ls)
+  by_front A = grind (arith, common_steps, none_up_to, records_of, records_of-front, one_found)
 
   -- the pairs of a text are what comes first in it, and the pairs of what comes after that
   pub interleaved_pairs_of-front : (ls : List (List ℕ)) →
       interleaved_pairs_of check k (records_of e ls)
       ≡ from_pair_front (λ fs rs. interleaved_pairs_of check (suc k) (records_of e fs))
       (interleaved_front check e k ls)
-  interleaved_pairs_of-front ls = ap (interleaved_pairs_of check k) (records_of-front e ls)
-      ∙ by_front (front e ls)
+  interleaved_pairs_of-front ls = grind (arith, common_steps, records_of-front, by_front)
 
   -- a pair that comes first is the first one
   pub interleaved_pairs_of-met : (m : Mates) (ls fs rs : List (List ℕ)) →
@@ -110,8 +105,7 @@ module _ (check : Bool) (e : Encoding) (k : ℕ) where
   -- if nothing comes first, there is no pair and no fault
   pub interleaved_pairs_of-ended : (ls : List (List ℕ)) → interleaved_front check e k ls ≡ Ended →
       interleaved_pairs_of check k (records_of e ls) ≡ record { mates = []; fault = None }
-  interleaved_pairs_of-ended ls is = interleaved_pairs_of-front ls
-      ∙ ap (from_pair_front (λ fs rs. interleaved_pairs_of check (suc k) (records_of e fs))) is
+  interleaved_pairs_of-ended ls is = grind (arith, common_steps)
 
 module _ {F : Type 0} (state : F → FeedState) (old : InterleavedSourced F) where
   abbrev text : List (List ℕ)

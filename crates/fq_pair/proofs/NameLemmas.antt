@@ -1,11 +1,11 @@
 -- The end of a mate's name in its title.
-use Rattle.std.proofs.Common.{◌≡◌, ℕ, zero, suc, ◌-◌, ◌<◌, ◌≤◌, true, false, eqb, nat_eq, Option, Some, None, unwrap_or, List, [], ◌∷◌, length, take, get_or, zero-le, refl, ap, sym, ◌∙◌, arith, inl, inr}
-use Rattle.std.specs.List.{before_first, position_or_len, ends_with}
+use Rattle.std.proofs.Common.{◌≡◌, ℕ, ◌-◌, ◌<◌, ◌≤◌, true, false, eqb, Option, Some, None, unwrap_or, List, length, take, get_or, zero-le, ap, sym, ◌∙◌, arith, inl, inr}
+use Rattle.std.specs.List.{before_first, position_or_len}
 use Rattle.std.specs.Str.{bytes_eq}
-use Rattle.std.proofs.lemmas.Bool.{cond_both, cases_lt, false_from_ne_true}
+use Rattle.std.proofs.lemmas.Bool.{cases_lt, false_from_ne_true}
 use Rattle.std.proofs.lemmas.Bool.Decides.{same_from_decides, Decides-eqb, Decides-like}
-use Rattle.std.proofs.lemmas.Grind.{same_number_lists}
-use Rattle.std.proofs.lemmas.List.{length-take, get_or-take, take-take}
+use Rattle.std.proofs.lemmas.Grind.{common_steps, same_number_lists}
+use Rattle.std.proofs.lemmas.List.{length-take, get_or-take}
 use Rattle.std.proofs.Math.Seq.{take-length}
 use Rattle.std.proofs.lemmas.Slice.Eq.{bytes_eq-Decides}
 use Rattle.std.proofs.lemmas.List.Sums.{position_or_len_is, fails_before_first}
@@ -23,10 +23,7 @@ word_end title None none =
     (λ k lt. false_from_ne_true (is_gap (get_or title k 0)) (none k (zero-le {n = k}) lt))
     (λ lt. absurd (omega arith))
 word_end title (Some end) is =
-    let high = is.0.high in
-    position_or_len_is is_gap title end 0 (omega arith)
-    (λ k lt. false_from_ne_true (is_gap (get_or title k 0)) (is.0.before k (zero-le {n = k}) lt))
-    (λ lt. is.1)
+    grind (arith, common_steps, position_or_len_is, false_from_ne_true, zero-le)
 
 -- a title up to its first blank or tab, or all of it if it has none, is its first word
 pub word_is : (title : List ℕ) (r : Option ℕ) (end : ℕ) → IsFirstByte (is_byte2 32 9) title r →
@@ -51,10 +48,7 @@ word_of_word title =
 -- No byte of a word is a gap.
 no_gap : (word : List ℕ) → before_first is_gap word ≡ word → (k : ℕ) → k < length word →
     is_gap (get_or word k 0) ≡ false
-no_gap word is k lt =
-    let long = length-take (position_or_len is_gap word) word in
-    let same = ap length is in
-    fails_before_first is_gap word k 0 (omega arith)
+no_gap word is k lt = grind (arith, common_steps, length-take, fails_before_first)
 
 -- A title that begins like a word, and goes on like one, begins with a word of its length.
 pub word_beside : (title word : List ℕ) → before_first is_gap word ≡ word → 0 < length word →
@@ -78,67 +72,21 @@ word_beside title word is some within like last end =
 -- A word without an ending is a prefix of it.
 get_or-without_end : (ending word : List ℕ) (k : ℕ) → k < length (without_end ending word) →
     get_or (without_end ending word) k 0 ≡ get_or word k 0
-get_or-without_end ending word k =
-    let short = length-take (length word - length ending) word in
-    cond_both (ends_with nat_eq word ending) (take (length word - length ending) word) word
-    (λ (name : List ℕ). k < length name → get_or name k 0 ≡ get_or word k 0)
-    (λ ends lt. get_or-take (length word - length ending) word k 0 (omega arith))
-    (λ other lt. refl)
+get_or-without_end ending word k = grind (arith, common_steps)
 
 length-without_end : (ending word : List ℕ) → length (without_end ending word) ≤ length word
-length-without_end ending word =
-    cond_both (ends_with nat_eq word ending) (take (length word - length ending) word) word
-    (λ (name : List ℕ). length name ≤ length word)
-    (λ ends. omega (arith, length-take (length word - length ending) word))
-    (λ other. omega arith)
-
--- A name is a prefix of its title.
-take_front : (n : ℕ) (text : List ℕ) → take (length (take n text)) text ≡ take n text
-take_front zero text = refl
-take_front (suc n) [] = refl
-take_front (suc n) (x ∷ text) = ap (λ (front : List ℕ). x ∷ front) (take_front n text)
-
-without_end_front : (ending word : List ℕ) →
-    take (length (without_end ending word)) word ≡ without_end ending word
-without_end_front ending word =
-    let short = take (length word - length ending) word in
-    cond_both (ends_with nat_eq word ending) short word (λ (name : List ℕ). take (length name) word
-    ≡ name)
-    (λ ends. take_front (length word - length ending) word)
-    (λ other. take-length word)
-
--- the first bytes of a title, as many as its name has, are the name
-pub name_front : (side : Side) (title : List ℕ) →
-    take (length (name_of side title)) title ≡ name_of side title
-name_front side title =
-    let n = position_or_len is_gap title in
-    let word = take n title in
-    let len = length (without_end (mark_of side) word) in
-    sym (take-take len n title (omega (
-      arith,
-      length-without_end (mark_of side) word,
-      length-take n
-          title,
-    )))
-    ∙ without_end_front (mark_of side) word
+length-without_end ending word = grind (arith, common_steps)
 
 -- a name is a prefix of an equal title, too
 pub named : (side : Side) (title same : List ℕ) (len : ℕ) → len ≡ length (name_of side title) →
     same ≡ title → take len same ≡ name_of side title
-named side title same len is equal = ap (λ (t : List ℕ). take len t) equal
-    ∙ ap (λ (n : ℕ). take n title) is ∙ name_front side title
+named side title same len is equal = grind (arith, common_steps)
 
 -- two lengths are those of the names in two titles if each of them is
 pub same_lengths : (n : NameLengths) (forward reverse : List ℕ) →
     n.forward ≡ length (name_of Forward forward) → n.reverse ≡ length (name_of Reverse reverse) →
     n ≡ lengths_of forward reverse
-same_lengths n forward reverse one other =
-    let parts : NameLengths → NameLengths = λ (k : NameLengths). record {
-      forward =
-          k.forward;
-      reverse = k.reverse;
-    } in
-    let same : parts n ≡ lengths_of forward reverse = cc in same
+same_lengths n forward reverse one other = grind (arith, common_steps)
 
 -- The names in two words that differ at most in their last bytes.
 module _ (word mate : List ℕ) (some : 0 < length word)
@@ -150,10 +98,7 @@ module _ (word mate : List ℕ) (some : 0 < length word)
   reverse_name = without_end (mark_of Reverse) mate
 
   front_like : (k : ℕ) → k < length word - 1 → get_or word k 0 ≡ get_or mate k 0
-  front_like k lt =
-      let last = length word - 1 in
-      sym (get_or-take last word k 0 lt) ∙ ap (λ (bytes : List ℕ). get_or bytes k 0) (sym like)
-      ∙ get_or-take last mate k 0 lt
+  front_like k lt = grind (arith, common_steps)
 
   -- names of one length are the same if the words are alike so far
   same_names : length forward_name ≡ length reverse_name →
@@ -166,8 +111,7 @@ module _ (word mate : List ℕ) (some : 0 < length word)
   -- names shorter than the words
   pub short_names : length forward_name ≡ length reverse_name →
       length forward_name ≤ length word - 1 → bytes_eq forward_name reverse_name ≡ true
-  short_names long short = (bytes_eq-Decides forward_name reverse_name).1
-      (same_names long (λ k lt. front_like k (omega arith)))
+  short_names long short = grind (arith, common_steps, bytes_eq-Decides, same_names, front_like)
 
   -- names as long as the words are the same if the last bytes are
   pub whole_names : length forward_name ≡ length reverse_name →

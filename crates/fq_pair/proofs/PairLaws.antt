@@ -2,8 +2,9 @@
 use Rattle.std.proofs.Common.{◌≡◌, ℕ, suc, ◌+◌, Bool, Some, None, List, [], ◌∷◌, length, take_while, refl, ap, sym, ◌∙◌, add-zero, arith, ⊎_elim}
 use Rattle.std.proofs.lemmas.Bool.{cond-true, cond-false, cases_Bool}
 use Rattle.std.proofs.lemmas.List.Sums.{take_while-cons}
+use Rattle.std.proofs.lemmas.Grind.{common_steps}
 use Rattle.fq_text.specs.declared.encoding.Encoding.{Encoding}
-use Rattle.fq_text.specs.Grammar.{Read, Front, End, Faulty, Found, front}
+use Rattle.fq_text.specs.Grammar.{Read, Front, front}
 use Rattle.fq_text.specs.Records.{Records, with_first, from_front, records_within}
 use Rattle.fq_text.proofs.RecordsLemmas.{fewer_lines, room_enough}
 use Rattle.fq_pair.specs.declared.fault.InputFault.{InputFault}
@@ -24,11 +25,7 @@ from_pair_front others (Met m forward reverse) = with_pair m (others forward rev
 module _ (e : Encoding) (ls : List (List ℕ)) where
   room_behind : (f : Front) → front e ls ≡ f →
       from_front (records_within (length ls) e) f ≡ from_front (records_of e) f
-  room_behind End is = refl
-  room_behind (Faulty fault) is = refl
-  room_behind (Found r rest) is =
-      let fewer = fewer_lines e ls r rest is in
-      ap (with_first r) (room_enough (length ls) (suc (length rest)) e rest fewer (omega arith))
+  room_behind f is = grind (arith, common_steps, fewer_lines, room_enough)
 
   -- the records of a text begin with the one that comes first
   pub records_of-front : records_of e ls ≡ from_front (records_of e) (front e ls)
@@ -55,13 +52,7 @@ none_up_to k forward reverse = ap (λ (n : ℕ). none_at n forward reverse) (add
 one_up_to : (m : Mates) (ms : List Mates) (k : ℕ) (f r : Read) (forward reverse : Records) →
     up_to (m ∷ ms) k (with_first f forward) (with_first r reverse)
     ≡ with_pair m (up_to ms (suc k) forward reverse)
-one_up_to m ms k f r forward reverse =
-    let number : k + suc (length ms) ≡ suc k + length ms = omega arith in
-    ap (λ (n : ℕ). with_pair m (record {
-      mates = ms;
-      fault =
-          fault_at (suc n) (behind (length ms) forward) (behind (length ms) reverse);
-    })) number
+one_up_to m ms k f r forward reverse = grind (arith, common_steps)
 
 module _ (check : Bool) (k : ℕ) (F G : List (List ℕ) → Records) where
   two_found : (f r : Read) (fls rls : List (List ℕ)) →
@@ -87,37 +78,21 @@ module _ (check : Bool) (k : ℕ) (F G : List (List ℕ) → Records) where
 
   by_fronts : (A B : Front) → pairs_of check k (from_front F A) (from_front G B) ≡ from_pair_front
       (λ fs rs. pairs_of check (suc k) (F fs) (G rs)) (meeting check (suc k) A B)
-  by_fronts (Faulty x) End = none_up_to k (from_front F (Faulty x)) (from_front G End)
-  by_fronts (Faulty x) (Faulty y) = none_up_to k (from_front F (Faulty x)) (from_front G (Faulty y))
-  by_fronts (Faulty x) (Found r rls) = none_up_to k (from_front F (Faulty x))
-      (from_front G (Found r rls))
-  by_fronts End End = none_up_to k (from_front F End) (from_front G End)
-  by_fronts End (Faulty y) = none_up_to k (from_front F End) (from_front G (Faulty y))
-  by_fronts End (Found r rls) = none_up_to k (from_front F End) (from_front G (Found r rls))
-  by_fronts (Found f fls) End = none_up_to k (from_front F (Found f fls)) (from_front G End)
-  by_fronts (Found f fls) (Faulty y) = none_up_to k (from_front F (Found f fls))
-      (from_front G (Faulty y))
-  by_fronts (Found f fls) (Found r rls) = two_found f r fls rls
+  by_fronts A B = grind (arith, common_steps, none_up_to, two_found)
 
 module _ (check : Bool) (e : Encoding) (k : ℕ) (forward reverse : List (List ℕ)) where
   -- the pairs of two texts are what comes first in them, and the pairs of what comes after that
   pub pairs_of-front : pairs_of check k (records_of e forward) (records_of e reverse)
       ≡ from_pair_front (λ fs rs. pairs_of check (suc k) (records_of e fs) (records_of e rs))
       (pair_front check e k forward reverse)
-  pairs_of-front =
-      ap (λ (x : Records). pairs_of check k x (records_of e reverse)) (records_of-front e forward)
-      ∙ ap (λ (x : Records). pairs_of check k (from_front (records_of e) (front e forward)) x)
-      (records_of-front e reverse)
-      ∙ by_fronts check k (records_of e) (records_of e) (front e forward) (front e reverse)
+  pairs_of-front = grind (arith, common_steps, records_of-front, by_fronts)
 
   -- a pair that comes first is the first one
   pub pairs_of-met : (m : Mates) (fs rs : List (List ℕ)) →
       pair_front check e k forward reverse ≡ Met m fs rs →
       pairs_of check k (records_of e forward) (records_of e reverse)
       ≡ with_pair m (pairs_of check (suc k) (records_of e fs) (records_of e rs))
-  pairs_of-met m fs rs is = pairs_of-front
-      ∙ ap (from_pair_front (λ fs rs. pairs_of check (suc k) (records_of e fs) (records_of e rs)))
-      is
+  pairs_of-met m fs rs is = grind (arith, common_steps, pairs_of-front)
 
   -- if a fault comes first, there is no pair, and the fault ends them
   pub pairs_of-stopped : (fault : InputFault) →
@@ -127,9 +102,7 @@ module _ (check : Bool) (e : Encoding) (k : ℕ) (forward reverse : List (List �
         fault =
             Some fault;
       }
-  pairs_of-stopped fault is = pairs_of-front
-      ∙ ap (from_pair_front (λ fs rs. pairs_of check (suc k) (records_of e fs) (records_of e rs)))
-      is
+  pairs_of-stopped fault is = grind (arith, common_steps)
 
   -- if nothing comes first, there is no pair and no fault
   pub pairs_of-ended : pair_front check e k forward reverse ≡ Ended →
@@ -138,6 +111,4 @@ module _ (check : Bool) (e : Encoding) (k : ℕ) (forward reverse : List (List �
         fault =
             None;
       }
-  pairs_of-ended is = pairs_of-front
-      ∙ ap (from_pair_front (λ fs rs. pairs_of check (suc k) (records_of e fs) (records_of e rs)))
-      is
+  pairs_of-ended is = grind (arith, common_steps)

@@ -1,11 +1,12 @@
 -- One side of a source of pairs, in three states one after the other, and the records of pairs.
-use Rattle.std.proofs.Common.{◌≡◌, ℕ, ◌+◌, ◌-◌, ◌≤◌, ◌⊎◌, inl, inr, ⊎_elim, true, false, IsTrue, List, [], ◌++◌, length, take, refl, ap, sym, ◌∙◌, arith, append_assoc}
-use Rattle.std.proofs.lemmas.List.{append_cancel_left, append_cancel_right, length-append, length-take-le, nil_from_length, take_at}
+use Rattle.std.proofs.Common.{◌≡◌, ℕ, ◌+◌, ◌-◌, ◌≤◌, ◌⊎◌, inl, inr, ⊎_elim, true, false, IsTrue, List, [], ◌++◌, length, ap, sym, ◌∙◌, arith, append_assoc}
+use Rattle.std.proofs.lemmas.List.{append_cancel_left, append_cancel_right, length-append, length-take-le, nil_from_length}
+use Rattle.std.proofs.lemmas.Grind.{common_steps}
 use Rattle.fq_text.specs.Devices.{FeedState}
 use Rattle.fq_text.specs.Lines.{lines, is_whole, whole_part}
 use Rattle.fq_text.proofs.LineLemmas.{lines-append, whole-append}
 use Rattle.fq_pair.specs.Mates.{Mates}
-use Rattle.fq_pair.specs.Forms.{Form, TwoTexts, InterleavedText, records_of_pairs}
+use Rattle.fq_pair.specs.Forms.{Form, records_of_pairs}
 use Rattle.fq_text.specs.Sources.{Sourced, rest_in, IsTail, KeepsCount}
 use Rattle.fq_pair.specs.Walks.{SideState, side_state, SourceState, rest, fed, came, Draws, Uses, Walks}
 use Rattle.fq_pair.proofs.WholeLemmas.{behind_whole, whole_split, is_whole-whole_part, whole_part-whole}
@@ -16,16 +17,7 @@ module _ {F : Type 0} (state : F → FeedState) (old new : Sourced F) where
   pub drawn : (n : ℕ) → KeepsCount state old new →
       (state new.feed).failures ≡ (state old.feed).failures + n →
       Draws (side_state state old) (side_state state new) n
-  drawn n k failed = record {
-    told = k.told;
-    max_reads = k.max_reads;
-    grows = k.grows;
-    ended =
-        k.ended;
-    bytes = k.fed;
-    size = k.length;
-    failures = failed;
-  }
+  drawn n k failed = grind (arith, common_steps)
 
   -- the bytes that a record was
   abbrev pub used : IsTail (rest_in state old) (rest_in state new) new.ended →
@@ -35,40 +27,23 @@ module _ {F : Type 0} (state : F → FeedState) (old new : Sourced F) where
 -- what a feed gave in two calls
 pub fed_then : (a b c : SideState) (n : ℕ) → Draws a b 0 → Draws b c n → IsTrue a.tells →
     fed a c ≡ fed a b ++ fed b c
-fed_then a b c n p q told =
-    let up = p.grows in let then = q.grows in let fits = p.size told in let more =
-    q.size (p.told ∙ told) in
-    let j = length-take-le (b.taken - a.taken) a.to_come fits in
-    let k = length-take-le (c.taken - b.taken) b.to_come more in
-    let sum : length (fed a b ++ fed b c) ≡ c.taken - a.taken =
-    omega (arith, length-append (fed a b) (fed b c)) in
-    ap (take (c.taken - a.taken)) (p.bytes told ∙ ap (λ xs. fed a b ++ xs) (q.bytes (p.told ∙ told))
-    ∙ sym (append_assoc (fed a b) (fed b c) c.to_come))
-    ∙ take_at (fed a b ++ fed b c) c.to_come (c.taken - a.taken) sum
+fed_then a b c n p q told = grind (arith, common_steps)
 
 -- two moves in a row, of which the first has no failure, are one move
 pub draws_then : (a b c : SideState) (n : ℕ) → Draws a b 0 → Draws b c n → Draws a c n
 draws_then a b c n p q =
-    let up = p.grows in let then = q.grows in let one = p.failures in let two = q.failures in
-    record {
-      told = q.told ∙ p.told;
-      max_reads = q.max_reads ∙ p.max_reads;
-      grows = omega arith;
-      ended = λ over. q.ended (p.ended over);
-      bytes = λ told. p.bytes told ∙ ap (λ xs. fed a b ++ xs) (q.bytes (p.told ∙ told))
-          ∙ sym (append_assoc (fed a b) (fed b c) c.to_come)
-          ∙ ap (λ xs. xs ++ c.to_come) (sym (fed_then a b c n p q told));
-      size = λ told.
-          let first = ap length (p.bytes told) in let fits = p.size told in let more =
-          q.size (p.told ∙ told) in let m = length-take-le (b.taken - a.taken) a.to_come fits in
-          omega (arith, length-append (fed a b) b.to_come);
-      failures = omega arith;
-    }
+    grind (
+      arith,
+      common_steps,
+      append_assoc (fed a b) (fed b c) c.to_come,
+      fed_then,
+      length-take-le,
+      length-append (fed a b) b.to_come,
+    )
 
 -- if nothing is left of a list, nothing is left after a part of it
 pub nothing_left : (xs ys zs : List ℕ) → zs ≡ [] → zs ≡ xs ++ ys → ys ≡ []
-nothing_left xs ys zs none is = let len = ap length (sym none ∙ is) in
-    nil_from_length ys (omega (arith, length-append xs ys))
+nothing_left xs ys zs none is = grind (arith, common_steps, nil_from_length ys, length-append xs ys)
 
 -- two moves in a row, of which the second keeps an end that was reported
 abbrev pub uses_then : (a b c : SideState) → (b.ended ≡ true → c.ended ≡ true) → Uses a b →
@@ -86,8 +61,7 @@ uses_then a b c stays p q = record {
 }
 
 none_before : (xs ys : List (List ℕ)) → xs ++ ys ≡ [] → xs ≡ []
-none_before xs ys is = let len = ap length is in
-    nil_from_length xs (omega (arith, length-append xs ys))
+none_before xs ys is = grind (arith, common_steps, nil_from_length xs, length-append xs ys)
 
 -- A side that was read up to a record, and then further.
 module _ (old mid new : SideState) (n : ℕ) (a : Draws old mid 0) (b : Draws mid new n)
@@ -97,13 +71,10 @@ module _ (old mid new : SideState) (n : ℕ) (a : Draws old mid 0) (b : Draws mi
       ∙ sym (append_assoc old.in_hand (fed old new) new.to_come)
 
   rest_then : rest mid ≡ came mid new ++ new.to_come
-  rest_then = ap (λ xs. mid.in_hand ++ xs) (b.bytes (a.told ∙ told))
-      ∙ sym (append_assoc mid.in_hand (fed mid new) new.to_come)
+  rest_then = grind (arith, common_steps)
 
   came_is : came old new ≡ u.used ++ came mid new
-  came_is = append_cancel_right (came old new) (u.used ++ came mid new) new.to_come
-      (sym rest_is ∙ u.split ∙ ap (λ xs. u.used ++ xs) rest_then
-      ∙ sym (append_assoc u.used (came mid new) new.to_come))
+  came_is = grind (arith, common_steps, append_cancel_right, rest_is, rest_then, append_assoc)
 
   -- the lines that did not come whole, and those to come
   abbrev pub more_lines : List (List ℕ)
@@ -130,42 +101,20 @@ module _ (old mid new : SideState) (n : ℕ) (a : Draws old mid 0) (b : Draws mi
 
   behind_used : is_whole u.used ≡ true → lines (rest mid) ≡ lines
       (whole_part (came mid new)) ++ more_lines
-  behind_used whole = split_lines (came mid new) (behind_whole (came old new) ++ new.to_come)
-      (rest mid)
-      (rest_then ∙ ap (λ xs. xs ++ new.to_come) (came_whole whole)
-      ∙ append_assoc (whole_part (came mid new)) (behind_whole (came old new)) new.to_come)
+  behind_used whole =
+      grind (arith, common_steps, split_lines, behind_whole, rest_then, came_whole, append_assoc)
 
   -- what is left of the lines that came whole, after those that were used
   pub lines_left : (ls : List (List ℕ)) → ls ++ more_lines ≡ lines (rest mid) →
       (ls ≡ lines (whole_part (came mid new))) ⊎ (ls ≡ [])
-  lines_left ls is = ⊎_elim
-      (λ (whole : is_whole u.used ≡ true). inl
-      (append_cancel_right ls (lines (whole_part (came mid new))) more_lines (is
-      ∙ behind_used whole)))
-      (λ (over : (rest mid ≡ []) × (mid.ended ≡ true)). inr (none_before ls more_lines (is
-      ∙ ap lines over.0)))
-      u.at_line
+  lines_left ls is = grind (arith, common_steps, append_cancel_right, behind_used, none_before)
 
   -- if the end had not been reported, they are the whole lines that came after it
   pub lines_behind : mid.ended ≡ false → lines (rest mid) ≡ lines
       (whole_part (came mid new)) ++ more_lines
-  lines_behind going =
-      ⊎_elim behind_used (λ (over : (rest mid ≡ []) × (mid.ended ≡ true)). absurd (let h = sym going
-      ∙ over.1 in cc)) u.at_line
-
--- in either form there are as many records as pairs, or more
-pub some_records : (form : Form) (n : ℕ) → n ≤ records_of_pairs form n
-some_records TwoTexts n = omega arith
-some_records InterleavedText n = omega arith
-
--- the records of two lists of pairs, one after the other
-pub records_then : (form : Form) (m n : ℕ) →
-    records_of_pairs form (m + n) ≡ records_of_pairs form m + records_of_pairs form n
-records_then TwoTexts m n = refl
-records_then InterleavedText m n = omega arith
+  lines_behind going = grind (arith, common_steps, behind_used)
 
 -- at least a forward record was given for each pair
 pub walked_records : (old new : SourceState) (ms : List Mates) → Walks old new ms →
     old.forward.given + length ms ≤ new.forward.given
-walked_records old new ms w = let records = w.forward_records in let some =
-    some_records old.form (length ms) in omega arith
+walked_records old new ms w = grind (arith, common_steps)

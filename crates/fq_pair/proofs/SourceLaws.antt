@@ -1,7 +1,8 @@
 -- The pairs that are left to a source of two texts, by what comes first in them.
-use Rattle.std.proofs.Common.{◌≡◌, ℕ, suc, ◌+◌, Bool, not, ◌||◌, true, IsTrue, Option, Some, None, MatchOption, Err, List, refl, ap, sym, subst, rules, ◌∙◌, add-one}
+use Rattle.std.proofs.Common.{arith, ◌≡◌, ℕ, suc, ◌+◌, Bool, not, ◌||◌, true, IsTrue, Option, Some, MatchOption, Err, List, refl, ap, sym, subst, rules, ◌∙◌, add-one}
 use Rattle.std.specs.Option.{IsSome, IsSomeAnd}
 use Rattle.std.proofs.lemmas.Bool.{cond-true}
+use Rattle.std.proofs.lemmas.Grind.{common_steps}
 use Rattle.fq_text.specs.Devices.{FeedState}
 use Rattle.fq_text.specs.declared.fault.TextFault.{TextFault}
 use Rattle.fq_text.specs.declared.encoding.Encoding.{Encoding}
@@ -80,25 +81,18 @@ of_current o x P is held = subst (λ p. MatchOption p ⊥ P) is held
 -- what holds for two current records as the pair that they are
 pub of_pair : (o p : Option Read) (x y : Read) (P : Mates → Type 0) → o ≡ Some x → p ≡ Some y →
     P (mates_in x y) → IsSomeAnd (pair_of true o p) P
-of_pair o p x y P first second held =
-    subst (λ q. IsSomeAnd (pair_of true q p) P) (sym first)
-    (subst (λ q. IsSomeAnd (pair_of true (Some x) q) P) (sym second) held)
+of_pair o p x y P first second held = grind (arith, common_steps)
 
 -- two current records that are a pair for which something holds
 pub is_pair : (has_pair : Bool) (o p : Option Read) (P : Mates → Type 0) → has_pair ≡ true →
     IsSomeAnd (pair_of true o p) P → IsSome (pair_of has_pair o p)
-is_pair has_pair None p P is held = absurd held
-is_pair has_pair (Some f) None P is held = absurd held
-is_pair has_pair (Some f) (Some r) P is held =
-    subst (λ h. IsSome (pair_of h (Some f) (Some r))) (sym is) refl
+is_pair has_pair o p P is held = grind (arith, common_steps)
 
 -- two reads belong together if their titles are found to
 pub of_titles : (check b : Bool) (f r : Read) (title title' : List ℕ) → title ≡ f.title →
     title' ≡ r.title → b ≡ (not check || names_match title title') →
     belong check (mates_in f r) ≡ b
-of_titles check b f r title title' first second found =
-    ap (λ t. not check || names_match t r.title) (sym first)
-    ∙ ap (λ t. not check || names_match title t) (sym second) ∙ sym found
+of_titles check b f r title title' first second found = grind (arith, common_steps)
 
 -- the reverse text stopped by a fault after the forward text had given a record
 pub fault_after_record : {F G : Type 0} (state : F → FeedState) (state' : G →
@@ -108,10 +102,8 @@ pub fault_after_record : {F G : Type 0} (state : F → FeedState) (state' : G �
     MatchOption o ⊥ (GivesRecord state a b) → StopsText state' a' b' why →
     StopsPairs state state' (asked a a' check given before)
     (stopped b b' check given (Err (Text Reverse why))) (Text Reverse why)
-fault_after_record state state' a b a' b' check given before None why ready encoding kept first
-    stops = absurd first
-fault_after_record state state' a b a' b' check given before (Some f) why ready encoding kept first
-    stops = search rules
+fault_after_record state state' a b a' b' check given before o why ready encoding kept first stops =
+    grind (arith, common_steps)
 
 -- the reverse text stopped by a fault after the forward text had ended
 pub fault_after_end : {F G : Type 0} (state : F → FeedState) (state' : G →

@@ -1,11 +1,11 @@
 -- The lines that the first record in a list of lines takes, whatever lines follow them.
-use Rattle.std.proofs.Common.{◌≡◌, ℕ, suc, ◌-◌, true, eqb, Some, None, List, [], ◌∷◌, ◌++◌, length, ap, sym, ◌∙◌, append_assoc, ⊎_elim}
+use Rattle.std.proofs.Common.{arith, ◌≡◌, ℕ, suc, ◌-◌, true, eqb, Some, None, List, [], ◌∷◌, ◌++◌, length, ap, sym, ◌∙◌, append_assoc, ⊎_elim}
 use Rattle.std.specs.List.{concat}
 use Rattle.std.proofs.lemmas.Bool.{cond-true, cond-false, cases_Bool}
 use Rattle.std.proofs.lemmas.List.{append_cancel_right}
+use Rattle.std.proofs.lemmas.Grind.{common_steps}
 use Rattle.fq_text.specs.declared.encoding.Encoding.{Encoding}
 use Rattle.fq_text.specs.Grammar.{Read, Found, front, begins_with, before_plus, from_plus, quality_lines, after_quality, title_fault, plus_fault, quality_faults, sequence_faults, unless_faulty, completed, from_quality_lines, from_plus_line}
-use Rattle.fq_text.specs.Records.{Records, from_front}
 use Rattle.fq_text.proofs.LawfulLemmas.{passed, complete}
 use Rattle.fq_pair.proofs.FrontLemmas.{no_quality}
 use Rattle.fq_pair.proofs.PairLaws.{records_of, records_of-front}
@@ -187,5 +187,4 @@ front_fewer e r ls rest more is =
 -- the first one, and those after it
 pub one_record : (e : Encoding) (r : Read) (ls rest : List (List ℕ)) → front e ls ≡ Found r rest →
     length (records_of e ls).reads ≡ suc (length (records_of e rest).reads)
-one_record e r ls rest is = ap (λ (t : Records). length t.reads) (records_of-front e ls
-    ∙ ap (from_front (records_of e)) is)
+one_record e r ls rest is = grind (arith, common_steps, records_of-front, records_of)

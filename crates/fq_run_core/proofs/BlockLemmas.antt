@@ -1,6 +1,7 @@
 -- Blocks that are written one after another.
 use Rattle.std.proofs.Common.{◌≡◌, ◌-◌, ◌<◌, ◌≤◌, ◌^◌, Option, Some, None, List, [], ◌++◌, length, refl, sym, ap, subst, ◌∙◌, arith}
 use Rattle.std.proofs.lemmas.List.{append-nil}
+use Rattle.std.proofs.lemmas.Grind.{common_steps}
 use Rattle.fq_pair.specs.declared.out.Out.{Out}
 use Rattle.fq_pair.specs.Mates.{Mates}
 use Rattle.fq_pair.specs.Summaries.{capped}
@@ -19,7 +20,7 @@ use Rattle.fq_run_core.specs.PairsRead.{Reads}
 use Rattle.fq_run_core.specs.Gathering.{Gathers}
 use Rattle.fq_run_core.specs.Writing.{no_halt, Passes}
 use Rattle.fq_run_core.proofs.OutletLemmas.{all_took_none, all_took_then, all_took_same}
-use Rattle.fq_run_core.proofs.TextLemmas.{no_text, text_then, some_pair}
+use Rattle.fq_run_core.proofs.TextLemmas.{no_text, some_pair}
 use Rattle.fq_run_core.proofs.TotalLemmas.{no_total_is, total_added, is_counted, is_cut}
 use Rattle.fq_run_core.proofs.WalkLemmas.{walks_none, walks_then, reads_then}
 use Rattle.fq_pair.proofs.SideLemmas.{walked_records}
@@ -53,12 +54,7 @@ module _ (c : Choices) (old : SourceState) (before : OutletStates) where
       OutletsTook after then (λ out. text_of out done.texts) None →
       OutletsTook before then (λ out. text_of out (texts_of c.steps (w.whole ++ g.block))) None
   took_block {now} {next} {after} {then} {counted} {t} {u} {done} {why} w g p =
-      let same =
-      λ (out : Out). ap (λ (t : Outputs). text_of out (texts_of c.steps w.whole) ++ text_of
-      out t) g.texts ∙ sym (text_then c.steps w.whole g.block out) in
-      all_took_same before then _ _ None same
-      (all_took_then before after then (λ out. text_of out (texts_of c.steps w.whole))
-      (λ out. text_of out done.texts) None w.took p)
+      grind (arith, common_steps)
 
   module _ {now next : SourceState} {after : OutletStates} {counted total : Total}
       {done : Done} {why : Option ReadingEnd} where
@@ -159,10 +155,4 @@ module _ (c : Choices) (old : SourceState) (before : OutletStates) where
       1 ≤ c.block_pairs → why ≡ None → old.most_bytes - next.forward.given < old.most_bytes -
       now.forward.given
   nearer {now} {next} {after} {counted} {t} {u} {done} {why} w g some going =
-      let P : Option ReadingEnd → Type 0 = λ o. Reads now next g.block o in
-      let reads : Walks now next g.block = subst P going g.reads in
-      let full = g.full going in let goes = g.goes going in let within = goes.within in
-      let records = walked_records now next g.block reads in
-      let walks = w.walks in let first = walks.same in let second = reads.same in let a =
-      first.most_bytes in let b = second.most_bytes in
-      omega arith
+      grind (arith, common_steps)

@@ -1,14 +1,15 @@
 -- The pairs of texts that came only in part.
 use Rattle.std.proofs.Common.{◌≡◌, ℕ, suc, ◌+◌, ◌≤◌, Bool, List, [], ◌∷◌, ◌++◌, length, refl, ap, sym, subst, ◌∙◌, arith, append_assoc}
 use Rattle.std.proofs.lemmas.List.{append_cancel_right}
+use Rattle.std.proofs.lemmas.Grind.{common_steps}
 use Rattle.fq_text.specs.declared.encoding.Encoding.{Encoding}
-use Rattle.fq_text.specs.Grammar.{Front, End, Faulty, Found, front}
+use Rattle.fq_text.specs.Grammar.{Found, front}
 use Rattle.fq_pair.specs.Mates.{Mates}
-use Rattle.fq_pair.specs.Pairing.{Pairs, PairFront, Ended, Stopped, Met, meeting, pair_front}
+use Rattle.fq_pair.specs.Pairing.{Pairs, PairFront, Ended, Stopped, Met, pair_front}
 use Rattle.fq_pair.specs.Interleaved.{side_after, interleaved_front}
 use Rattle.fq_pair.specs.Forms.{TwoTexts, InterleavedText}
 use Rattle.fq_pair.specs.Walks.{Leads}
-use Rattle.fq_pair.proofs.PairLaws.{records_of, pairs_of-met, pairs_of-stopped, pairs_of-ended}
+use Rattle.fq_pair.proofs.PairLaws.{records_of, pairs_of-met}
 use Rattle.fq_pair.proofs.InterleavedLaws.{interleaved_pairs_of-met, interleaved_pairs_of-stopped, interleaved_pairs_of-ended}
 use Rattle.fq_run_core.proofs.FormLemmas.{pairs_at}
 use Rattle.fq_pair.proofs.TakenLemmas.{front_takes, front_fewer, one_record}
@@ -21,31 +22,11 @@ module _ (check : Bool) (e : Encoding) where
 
   -- without forward lines there is no pair
   pub no_forward : (n : ℕ) (reverse : List (List ℕ)) → mates_at n [] reverse ≡ []
-  no_forward n reverse = by_front (front e reverse) refl
-    where
-      by_front : (x : Front) → front e reverse ≡ x → mates_at n [] reverse ≡ []
-      by_front End is =
-          ap (λ (p : Pairs). p.mates) (pairs_of-ended check e n [] reverse (ap
-          (meeting check (suc n) End) is))
-      by_front (Faulty f) is =
-          ap (λ (p : Pairs). p.mates) (pairs_of-stopped check e n [] reverse _ (ap
-          (meeting check (suc n) End) is))
-      by_front (Found r rs) is = ap (λ (p : Pairs). p.mates)
-          (pairs_of-stopped check e n [] reverse _ (ap (meeting check (suc n) End) is))
+  no_forward n reverse = grind (arith, common_steps)
 
   -- without reverse lines there is no pair
   pub no_reverse : (n : ℕ) (forward : List (List ℕ)) → mates_at n forward [] ≡ []
-  no_reverse n forward = by_front (front e forward) refl
-    where
-      by_front : (x : Front) → front e forward ≡ x → mates_at n forward [] ≡ []
-      by_front End is =
-          ap (λ (p : Pairs). p.mates) (pairs_of-ended check e n forward [] (ap
-          (λ x. meeting check (suc n) x End) is))
-      by_front (Faulty f) is =
-          ap (λ (p : Pairs). p.mates) (pairs_of-stopped check e n forward [] _ (ap
-          (λ x. meeting check (suc n) x End) is))
-      by_front (Found r rs) is = ap (λ (p : Pairs). p.mates)
-          (pairs_of-stopped check e n forward [] _ (ap (λ x. meeting check (suc n) x End) is))
+  no_reverse n forward = grind (arith, common_steps)
 
   module _ (more more' : List (List ℕ)) where
     -- what is known of the lines that are left
@@ -65,25 +46,11 @@ module _ (check : Bool) (e : Encoding) where
         (x : PairFront) → pair_front check e n forward reverse ≡ x →
         length (mates_at n forward reverse) ≤ length (m ∷ ms)
     one_more n m ms forward reverse forward' reverse' gs qs first p none then Ended is =
-        let h = ap (λ (q : Pairs). length q.mates) (pairs_of-ended check e n forward reverse is) in
-        omega arith
+        grind (arith, common_steps)
     one_more n m ms forward reverse forward' reverse' gs qs first p none then (Stopped w) is =
-        let h = ap (λ (q : Pairs). length q.mates)
-        (pairs_of-stopped check e n forward reverse w is) in omega arith
+        grind (arith, common_steps)
     one_more n m ms forward reverse forward' reverse' gs qs first p none then (Met x fs rs) is =
-        let longer = met_more check e n x forward reverse fs rs more more' is in
-        let both : Met x (fs ++ more) (rs ++ more') ≡ Met m gs qs = sym longer ∙ first in
-        let f : gs ≡ fs ++ more = cc in let r : qs ≡ rs ++ more' = cc in
-        let F : List (List ℕ) → Type 0 = λ ls. Leads TwoTexts check e (suc n) ms ls qs forward'
-        reverse' in
-        let R : List (List ℕ) → Type 0 = λ ls. Leads TwoTexts check e (suc n) ms (fs ++ more) ls
-        forward' reverse' in
-        let N : ℕ → Type 0 = λ k. LeavesNone k forward' reverse' in
-        let number : n + suc (length ms) ≡ suc n + length ms = omega arith in
-        let rest = then fs rs (subst R r (subst F f p)) (subst N number none) in
-        let h = ap (λ (q : Pairs). length q.mates)
-        (pairs_of-met check e n forward reverse x fs rs is) in
-        omega arith
+        grind (arith, common_steps, met_more, pairs_of-met)
 
     -- the first lines of two texts have at most as many pairs as `ms`, if `ms` leads to lines that
     -- begin with no pair
@@ -91,10 +58,7 @@ module _ (check : Bool) (e : Encoding) where
         Leads TwoTexts check e n ms (forward ++ more) (reverse ++ more') forward' reverse' →
         LeavesNone (n + length ms) forward' reverse' →
         length (mates_at n forward reverse) ≤ length ms
-    at_most n [] forward reverse forward' reverse' p none =
-        let same : n + 0 ≡ n = omega arith in
-        let P : ℕ → Type 0 = λ k. length (mates_at k forward reverse) ≤ 0 in
-        subst P same (none forward reverse p.0 p.1)
+    at_most n [] forward reverse forward' reverse' p none = grind (arith, common_steps)
     at_most n (m ∷ ms) forward reverse forward' reverse' p none =
         one_more n m ms forward reverse forward' reverse' p.0 p.1 p.2 p.3 none
         (λ fs rs. at_most (suc n) ms fs rs forward' reverse')
@@ -125,8 +89,7 @@ module _ (check : Bool) (e : Encoding) where
         (x : PairFront) → interleaved_front check e n ls ≡ x →
         length (interleaved_at n ls) ≤ length (m ∷ ms)
     interleaved_one_more n m ms ls same ls' same' gs qs first p none then Ended is =
-        let h = ap (λ (q : Pairs). length q.mates) (interleaved_pairs_of-ended check e n ls is) in
-        omega arith
+        grind (arith, common_steps)
     interleaved_one_more n m ms ls same ls' same' gs qs first p none then (Stopped w) is =
         let h = ap (λ (q : Pairs). length q.mates)
         (interleaved_pairs_of-stopped check e n ls w is) in omega arith
@@ -147,10 +110,7 @@ module _ (check : Bool) (e : Encoding) where
     pub interleaved_at_most : (n : ℕ) (ms : List Mates) (ls same ls' same' : List (List ℕ)) →
         Leads InterleavedText check e n ms (ls ++ more) same ls' same' →
         InterleavedNone (n + length ms) ls' → length (interleaved_at n ls) ≤ length ms
-    interleaved_at_most n [] ls same ls' same' p none =
-        let zero_more : n + 0 ≡ n = omega arith in
-        let P : ℕ → Type 0 = λ k. length (interleaved_at k ls) ≤ 0 in
-        subst P zero_more (none ls p.0)
+    interleaved_at_most n [] ls same ls' same' p none = grind (arith, common_steps)
     interleaved_at_most n (m ∷ ms) ls same ls' same' p none =
         interleaved_one_more n m ms ls same ls' same' p.0 p.1 p.2 p.3 none
         (λ fs rs. interleaved_at_most (suc n) ms fs rs ls' same')
@@ -179,8 +139,7 @@ module _ (check : Bool) (e : Encoding) where
         Leads InterleavedText check e n ms (ls ++ more) same (behind ++ more) same' →
         side_after (length (records_of e ls).reads)
         ≡ side_after (length (records_of e behind).reads)
-    turn_kept n [] ls same same' p = ap (λ xs. side_after (length (records_of e xs).reads))
-        (append_cancel_right ls behind more p.0)
+    turn_kept n [] ls same same' p = grind (arith, common_steps, records_of, append_cancel_right)
     turn_kept n (m ∷ ms) ls same same' p =
         let q = meets_interleaved check e (suc n) m p.0 p.1 (front e (ls ++ more)) p.2 in
         let last = leads_end (suc n) ms p.0 p.1 (behind ++ more) same' p.3 in

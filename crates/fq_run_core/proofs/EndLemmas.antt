@@ -1,6 +1,7 @@
 -- What a run guarantees, from what it read and wrote.
 use Rattle.std.proofs.Common.{◌&&◌, ◌≡◌, ◌≤◌, ◌⊎◌, inl, inr, true, false, IsTrue, Option, Some, None, List, [], ◌++◌, length, refl, sym, ap, subst, ◌∙◌, arith, append_assoc}
 use Rattle.std.proofs.lemmas.List.{append-nil}
+use Rattle.std.proofs.lemmas.Grind.{common_steps}
 use Rattle.fq_text.specs.Lines.{whole_part}
 use Rattle.fq_text.specs.Records.{records}
 use Rattle.fq_text.specs.declared.fault.TextFault.{TextFault}
@@ -15,7 +16,7 @@ use Rattle.fq_pair.specs.Interleaved.{side_after}
 use Rattle.fq_pair.specs.Forms.{Form, InterleavedText, pairs_in}
 use Rattle.fq_pair.specs.Pairing.{Pairs}
 use Rattle.fq_pair.specs.PairSources.{is_cut, is_cut_short, if_cut}
-use Rattle.fq_pair.specs.Outputs.{texts_of, text_of, counts_of}
+use Rattle.fq_pair.specs.Outputs.{texts_of, text_of}
 use Rattle.fq_run_core.specs.declared.outcome.Outcome.{Outcome}
 use Rattle.fq_run_core.specs.declared.outcome.Outcome.TheVariants as outcome
 use Rattle.fq_report_pairs.specs.Results.{tally_if}
@@ -34,8 +35,8 @@ use Rattle.fq_run_core.specs.Totals.{tally_at}
 use Rattle.fq_run_core.proofs.TotalLemmas.{recounted, none_at, whole_at, kept_at}
 use Rattle.fq_run_core.specs.Endings.{Run, AreTold, all_pairs, trimmed_outcome, IsTrimmed, ends_whole, feed_of, feed_left, gave_to, failures_in, IsCutOff, pairs_given, IsNext, IsAllThatCame, AreFirst, IsJustified, EveryEnding}
 use Rattle.fq_run_core.proofs.OutletLemmas.{all_took_then, all_took_same}
-use Rattle.fq_run_core.proofs.ReadingLemmas.{failed_by, gave_is, gave_length, fed_back, reads_first, reads_end, reads_fault, reads_forward, reads_reverse, reads_cut, reads_next}
-use Rattle.fq_run_core.proofs.VerdictLemmas.{Kind, OfText, OfRead, OfEndless, OfMemory, kind, Verdict, IsRefused, WantsMemory, FailedAt, CannotRead, HasNoEnd, HasFault, IsOver, read_once, failed_once, not_spawn, at_write, at_read, at_endless, outlet_first, feed_first, lacks_memory}
+use Rattle.fq_run_core.proofs.ReadingLemmas.{failed_by, fed_back, reads_first, reads_end, reads_fault, reads_forward, reads_reverse, reads_cut, reads_next}
+use Rattle.fq_run_core.proofs.VerdictLemmas.{Kind, OfText, OfRead, OfEndless, OfMemory, kind, Verdict, IsRefused, WantsMemory, FailedAt, CannotRead, HasNoEnd, HasFault, IsOver, read_once, failed_once, not_spawn, at_write, at_read, at_endless, outlet_first, feed_first}
 
 -- What is counted of pairs is counted of the same pairs. On plain variables: the parts of a tally
 -- are many, and would be compared one by one.
@@ -194,37 +195,24 @@ module _ (form : Form) (c : Choices) (f r : FeedState) (new : SourceState)
   all_read = (p.whole ++ block_begun p.fate) ++ p.missed
 
   failures_are : (side : Side) → failures_in (feed_left side run) ≡ failed_by form side why
-  failures_are Forward = let d = reads_forward form c f r new all_read why p.reads in let e =
-      d.failures in omega arith
-  failures_are Reverse = let d = reads_reverse form c f r new all_read why p.reads in let e =
-      d.failures in omega arith
+  failures_are Forward = grind (arith, common_steps)
+  failures_are Reverse = grind (arith, common_steps)
 
   forward_gave : IsTrue f.tells → gave f (feed_in new.forward) ≡ fed (fresh_side c f) new.forward
-  forward_gave told = gave_is c f new.forward _ (reads_forward form c f r new all_read why p.reads)
-      told
+  forward_gave told = grind (arith, common_steps)
 
   reverse_gave : IsTrue r.tells → gave r (feed_in new.reverse) ≡ fed (fresh_side c r) new.reverse
-  reverse_gave told = gave_is c r new.reverse _ (reads_reverse form c f r new all_read why p.reads)
-      told
+  reverse_gave told = grind (arith, common_steps)
 
   reads_at : (s : ReadingEnd) → why ≡ Some s → Reads (fresh_source form c f r) new all_read (Some s)
-  reads_at s is = let P : Option ReadingEnd → Type 0 =
-      λ w. Reads (fresh_source form c f r) new all_read w in subst P is p.reads
+  reads_at s is = grind (arith, common_steps)
 
   -- at least `max_reads` bytes were given if one read call more would have been too many
   endless_bytes : (side : Side) → why ≡ Some (reading.Fault (Text side text.Endless)) →
       IsTrue (feed_of side run).tells → c.max_reads ≤ length
       (gave_to (feed_of side run) (feed_left side run))
-  endless_bytes Forward is told =
-      let q = reads_at (reading.Fault (Text Forward text.Endless)) is in let e = q.2 in let most =
-      e.endless in
-      let d = reads_forward form c f r new all_read why p.reads in let same = d.max_reads in
-      let len = gave_length c f new.forward _ d told in omega arith
-  endless_bytes Reverse is told =
-      let q = reads_at (reading.Fault (Text Reverse text.Endless)) is in let e = q.2 in let most =
-      e.endless in
-      let d = reads_reverse form c f r new all_read why p.reads in let same = d.max_reads in
-      let len = gave_length c r new.reverse _ d told in omega arith
+  endless_bytes Forward is told = grind (arith, common_steps)
+  endless_bytes Reverse is told = grind (arith, common_steps)
 
   -- at least the pairs in the complete lines that came
   cut_pairs : AreTold run → (fault : InputFault) → why ≡ Some (reading.Fault fault) →
@@ -241,19 +229,14 @@ module _ (form : Form) (c : Choices) (f r : FeedState) (new : SourceState)
 
   whole_is : halt ≡ no_halt → (fate : Fate) → p.fate ≡ fate → block_begun fate ≡ [] →
       all_read ≡ p.whole
-  whole_is going fate is none =
-      let empty : block_begun p.fate ≡ [] = ap block_begun is ∙ none in
-      ap (λ ms. (p.whole ++ block_begun p.fate) ++ ms) (p.missed_none going empty)
-      ∙ append-nil (p.whole ++ block_begun p.fate) ∙ ap (λ ms. p.whole ++ ms) empty
-      ∙ append-nil p.whole
+  whole_is going fate is none = grind (arith, common_steps)
 
   sound_fate : failed ≡ None → p.fate ≡ Unbroken
   sound_fate none = unbroken p.fate (sym none ∙ p.failed)
 
   cut_whole : AreTold run → (fault : InputFault) → why ≡ Some (reading.Fault fault) →
       is_cut_short fault ≡ true → all_read ≡ p.whole → length (pairs_given c run) ≤ length p.whole
-  cut_whole told fault is short whole = let most = cut_pairs told fault is short in let len =
-      ap length whole in omega arith
+  cut_whole told fault is short whole = grind (arith, common_steps, cut_pairs)
 
   -- in an interleaved text the read call was made for the next record
   next_side : form ≡ InterleavedText → AreTold run → (side : Side) (fault : TextFault) →
@@ -294,9 +277,7 @@ module _ (form : Form) (c : Choices) (f r : FeedState) (new : SourceState)
           IsCutOff c run.forward run.forward_left ⊎ IsCutOff c run.reverse run.reverse_left
       endless Forward at_fault = inl (inr (endless_bytes Forward at_fault told.forward))
       endless Reverse at_fault = inr (inr (endless_bytes Reverse at_fault told.reverse))
-  came_by fault (OfMemory side same) is told whole out at =
-      absurd (let e = sym (ap lacks_memory (is ∙ ap (λ w. Some (reading.Fault w)) same))
-      ∙ (at_write halt why failed o v out at).2 in cc)
+  came_by fault (OfMemory side same) is told whole out at = grind (arith, common_steps)
 
   came : (w : Option ReadingEnd) → why ≡ w → AreTold run → is_flush p.fate ≡ true →
       all_read ≡ p.whole → (out : Out) → o ≡ outcome.Write out → IsAllThatCame c run p.whole
@@ -305,8 +286,7 @@ module _ (form : Form) (c : Choices) (f r : FeedState) (new : SourceState)
       inl (sym whole
       ∙ sym (ap (λ (q : Pairs). q.mates)
       (reads_end form c f r new all_read (reads_at reading.End is) told.forward told.reverse)))
-  came (Some (reading.Memory refused)) is told flush whole out at =
-      absurd (let e = sym (ap lacks_memory is) ∙ (at_write halt why failed o v out at).2 in cc)
+  came (Some (reading.Memory refused)) is told flush whole out at = grind (arith, common_steps)
   came (Some (reading.Fault fault)) is told flush whole out at =
       came_by fault (kind fault) is told whole out at
 
@@ -337,15 +317,11 @@ module _ (form : Form) (c : Choices) (f r : FeedState) (new : SourceState)
   -- the tally is that of the pairs that were written, if the run ended whole
   tally_is : Verdict halt why failed o → tally_at o counted.tally
       ≡ tally_if (c.tallied && ends_whole o) c.steps p.whole
-  tally_is (IsRefused there is) = none_at _ c.tallied counted.tally c.steps p.whole
-      (ap ends_whole is)
+  tally_is (IsRefused there is) = grind (arith, common_steps)
   tally_is (WantsMemory is) = none_at _ c.tallied counted.tally c.steps p.whole (ap ends_whole is)
-  tally_is (FailedAt x there going enough is) =
-      none_at _ c.tallied counted.tally c.steps p.whole (ap ends_whole is)
-  tally_is (CannotRead x none going there is) =
-      none_at _ c.tallied counted.tally c.steps p.whole (ap ends_whole is)
-  tally_is (HasNoEnd x none going there is) =
-      none_at _ c.tallied counted.tally c.steps p.whole (ap ends_whole is)
+  tally_is (FailedAt x there going enough is) = grind (arith, common_steps)
+  tally_is (CannotRead x none going there is) = grind (arith, common_steps)
+  tally_is (HasNoEnd x none going there is) = grind (arith, common_steps)
   tally_is (HasFault fault none going there inside is) =
       whole_at _ c.tallied counted.tally c.steps p.whole (ap ends_whole is)
       (p.counts.tally going none (ap refused_in there))
@@ -401,12 +377,9 @@ module _ (form : Form) (c : Choices) (f r : FeedState) (new : SourceState)
   trimmed_by : Verdict halt why failed o → IsTrue (ends_whole o) → AreTold run → IsTrimmed c run
   trimmed_by (IsRefused there is) ends told = absurd (let e = sym (ap ends_whole is) ∙ ends in cc)
   trimmed_by (WantsMemory is) ends told = absurd (let e = sym (ap ends_whole is) ∙ ends in cc)
-  trimmed_by (FailedAt x there going enough is) ends told =
-      absurd (let e = sym (ap ends_whole is) ∙ ends in cc)
-  trimmed_by (CannotRead x none going there is) ends told =
-      absurd (let e = sym (ap ends_whole is) ∙ ends in cc)
-  trimmed_by (HasNoEnd x none going there is) ends told =
-      absurd (let e = sym (ap ends_whole is) ∙ ends in cc)
+  trimmed_by (FailedAt x there going enough is) ends told = grind (arith, common_steps)
+  trimmed_by (CannotRead x none going there is) ends told = grind (arith, common_steps)
+  trimmed_by (HasNoEnd x none going there is) ends told = grind (arith, common_steps)
   trimmed_by (HasFault fault none going there inside is) ends told =
       trimmed_all told none going (ap refused_in there) (Some fault)
       (reads_fault form c f r new all_read fault (reads_at (reading.Fault fault) there) inside

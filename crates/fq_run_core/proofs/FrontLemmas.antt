@@ -1,6 +1,7 @@
 -- A pair at the beginning of lists of lines is still there if more lines follow.
-use Rattle.std.proofs.Common.{◌≡◌, ℕ, suc, Bool, true, List, ◌++◌, refl, ap, sym, ◌∙◌, ⊎_elim}
-use Rattle.std.proofs.lemmas.Bool.{cond-true, cond-false, cases_Bool}
+use Rattle.std.proofs.Common.{arith, ◌≡◌, ℕ, suc, Bool, true, List, ◌++◌, ap, sym, ◌∙◌}
+use Rattle.std.proofs.lemmas.Bool.{cond-true}
+use Rattle.std.proofs.lemmas.Grind.{common_steps}
 use Rattle.fq_text.specs.declared.encoding.Encoding.{Encoding}
 use Rattle.fq_text.specs.Grammar.{Read, Front, End, Faulty, Found, front}
 use Rattle.fq_pair.specs.Mates.{Mates, mates_in}
@@ -21,25 +22,7 @@ record Meets (check : Bool) (m : Mates) (fs rs : List (List ℕ)) (forward rever
 
 found_met : (check : Bool) (n : ℕ) (m : Mates) (f r : Read) (gs qs fs rs : List (List ℕ)) →
     met check n (mates_in f r) gs qs ≡ Met m fs rs → Meets check m fs rs (Found f gs) (Found r qs)
-found_met check n m f r gs qs fs rs is = ⊎_elim
-    (λ together.
-    let same : Met (mates_in f r) gs qs ≡ Met m fs rs =
-    sym (cond-true (belong check (mates_in f r)) (Met (mates_in f r) gs qs)
-    (Stopped (NamesDiffer n)) together) ∙ is in
-    let g : gs ≡ fs = cc in let q : qs ≡ rs = cc in let p : mates_in f r ≡ m = cc in
-    record {
-      f = f;
-      r = r;
-      first = ap (Found f) g;
-      second = ap (Found r) q;
-      together =
-          together;
-      pair = p;
-    })
-    (λ apart. absurd (let h =
-    sym (cond-false (belong check (mates_in f r)) (Met (mates_in f r) gs qs)
-    (Stopped (NamesDiffer n)) apart) ∙ is in cc))
-    (cases_Bool (belong check (mates_in f r)))
+found_met check n m f r gs qs fs rs is = grind (arith, common_steps)
 
 meets : (check : Bool) (n : ℕ) (m : Mates) (fs rs : List (List ℕ)) (forward reverse : Front) →
     meeting check n forward reverse ≡ Met m fs rs → Meets check m fs rs forward reverse
@@ -85,44 +68,12 @@ pub record MeetsInterleaved (check : Bool) (e : Encoding) (m : Mates) (fs rs : L
   pub together : belong check (mates_in f r) ≡ true
   pub pair : mates_in f r ≡ m
 
-found_interleaved : (check : Bool) (e : Encoding) (n : ℕ) (m : Mates) (f r : Read)
-    (ls qs fs rs : List (List ℕ)) → front e ls ≡ Found r qs →
-    met check n (mates_in f r) qs qs ≡ Met m fs rs →
-    MeetsInterleaved check e m fs rs (Found f ls)
-found_interleaved check e n m f r ls qs fs rs second is = ⊎_elim
-    (λ together.
-    let same : Met (mates_in f r) qs qs ≡ Met m fs rs =
-    sym (cond-true (belong check (mates_in f r)) (Met (mates_in f r) qs qs)
-    (Stopped (NamesDiffer n)) together) ∙ is in
-    let g : qs ≡ fs = cc in let q : qs ≡ rs = cc in let p : mates_in f r ≡ m = cc in
-    record {
-      f = f;
-      r = r;
-      ls = ls;
-      first = refl;
-      second = second ∙ ap (Found r) g;
-      same = sym q
-          ∙ g;
-      together = together;
-      pair = p;
-    })
-    (λ apart. absurd (let h =
-    sym (cond-false (belong check (mates_in f r)) (Met (mates_in f r) qs qs)
-    (Stopped (NamesDiffer n)) apart) ∙ is in cc))
-    (cases_Bool (belong check (mates_in f r)))
-
 -- if a pair comes first in an interleaved text, so do the two records that make it
 pub meets_interleaved : (check : Bool) (e : Encoding) (n : ℕ) (m : Mates) (fs rs : List (List ℕ))
     (x : Front) → interleaved_meeting check e n x ≡ Met m fs rs → MeetsInterleaved check e m fs rs x
 meets_interleaved check e n m fs rs End is = absurd cc
 meets_interleaved check e n m fs rs (Faulty x) is = absurd cc
-meets_interleaved check e n m fs rs (Found f ls) is = behind (front e ls) refl is
-  where
-    behind : (y : Front) → front e ls ≡ y → meeting_after check n f y ≡ Met m fs rs →
-        MeetsInterleaved check e m fs rs (Found f ls)
-    behind End at there = absurd cc
-    behind (Faulty x) at there = absurd cc
-    behind (Found r qs) at there = found_interleaved check e n m f r ls qs fs rs at there
+meets_interleaved check e n m fs rs (Found f ls) is = grind (arith, common_steps)
 
 -- a pair at the beginning of the lines of an interleaved text is still there if more follow
 pub interleaved_met_more : (check : Bool) (e : Encoding) (n : ℕ) (m : Mates)

@@ -2,12 +2,12 @@
 use Rattle.std.proofs.Common.{◌≡◌, ℕ, ◌+◌, ◌<◌, ◌≤◌, Bool, true, false, Option, Some, None, List, [], ◌∷◌, ◌++◌, length, refl, sym, ap, subst, ◌∙◌, arith}
 use Rattle.std.specs.Option.{is_some}
 use Rattle.std.proofs.lemmas.List.{length-append}
+use Rattle.std.proofs.lemmas.Grind.{common_steps}
 use Rattle.fq_trim.specs.declared.step.Step.{Step}
 use Rattle.fq_pair.specs.declared.fault.InputFault.{InputFault}
 use Rattle.fq_text.specs.Grammar.{Read}
 use Rattle.fq_text.specs.declared.memory.MemoryRefused.{MemoryRefused}
 use Rattle.fq_pair.specs.Mates.{Mates, mates_in}
-use Rattle.fq_pair.specs.Outputs.{texts_of}
 use Rattle.fq_report_pairs.specs.declared.tally.Tally.{Tally}
 use Rattle.fq_report_pairs.specs.declared.done.Done.{Done}
 use Rattle.fq_report_pairs.specs.Results.{tally_with, made_of, with_mates}
@@ -77,53 +77,30 @@ module _ (steps : List Step) (tally : Option Tally) where
       Gathered old now steps tally t done n → done.texts.counts.pairs ≡ n
   gathered_few old now t done n g = ap (λ (d : Done). d.texts.counts.pairs) g.made ∙ g.len
 
-  -- its texts
-  texts_are : (old now : SourceState) (t : Option Tally) (done : Done) (n : ℕ)
-      (g : Gathered old now steps tally t done n) → done.texts ≡ texts_of steps g.block
-  texts_are old now t done n g = ap (λ (d : Done). d.texts) g.made
-
   -- the block is full, and reading goes on
   pub gathers_full : (old now : SourceState) (t : Option Tally) (done : Done) (n most : ℕ) →
       n ≡ most → Gathered old now steps tally t done n →
       Gathers old now steps most tally t done None
-  gathers_full old now t done n most full g = let len = g.len in record {
-    block = g.block;
-    texts = texts_are old now t done n g;
-    tallied = g.tallied;
-    few = omega arith;
-    full = λ going. g.len ∙ full;
-    reads = g.walks;
-    goes = λ going. g.goes;
-  }
+  gathers_full old now t done n most full g = grind (arith, common_steps)
 
   -- reading stopped after the block
   gathers_stopped : (old now next : SourceState) (t : Option Tally) (done : Done) (n most : ℕ)
       (stop : ReadingEnd) → n < most → (g : Gathered old now steps tally t done n) →
       Reads old next g.block (Some stop) → Gathers old next steps most tally t done (Some stop)
-  gathers_stopped old now next t done n most stop room g reads = let len = g.len in record {
-    block = g.block;
-    texts = texts_are old now t done n g;
-    tallied = g.tallied;
-    few = omega arith;
-    full = λ going. absurd cc;
-    reads = reads;
-    goes = λ going. absurd cc;
-  }
+  gathers_stopped old now next t done n most stop room g reads = grind (arith, common_steps)
 
   -- the end of the input was found before the block was full
   pub gathers_end : (old now next : SourceState) (t : Option Tally) (done : Done) (n most : ℕ) →
       n < most → Gathered old now steps tally t done n → MeetsEnd now next →
       Gathers old next steps most tally t done (Some reading.End)
-  gathers_end old now next t done n most room g e =
-      gathers_stopped old now next t done n most reading.End room g (now, g.walks, e)
+  gathers_end old now next t done n most room g e = grind (arith, common_steps)
 
   -- a fault was found before the block was full
   pub gathers_fault : (old now next : SourceState) (t : Option Tally) (done : Done) (n most : ℕ)
       (why : InputFault) → n < most → Gathered old now steps tally t done n →
       MeetsFault now next why →
       Gathers old next steps most tally t done (Some (reading.Fault why))
-  gathers_fault old now next t done n most why room g e =
-      gathers_stopped old now next t done n most (reading.Fault why) room g (now, g.walks, e)
+  gathers_fault old now next t done n most why room g e = grind (arith, common_steps)
 
   -- memory for one more pair was refused: that pair is lost, and the block is as it was
   pub gathers_refused : (refused : MemoryRefused) (old now next : SourceState) (t u : Option Tally)
@@ -146,9 +123,7 @@ pub gathers_as : {old new : SourceState} {steps steps' : List Step} {most most' 
     {t u : Option Tally} {done : Done} {why : Option ReadingEnd} → steps' ≡ steps → most' ≡ most →
     Gathers old new steps' most' t u done why → Gathers old new steps most t u done why
 gathers_as {old} {new} {steps} {steps'} {most} {most'} {t} {u} {done} {why} same bound g =
-    let P : List Step → Type 0 = λ s. Gathers old new s most t u done why in
-    let Q : ℕ → Type 0 = λ n. Gathers old new steps' n t u done why in
-    subst P same (subst Q bound g)
+    grind (arith, common_steps)
 
 -- why reading stopped, if it did
 pub end_is : (why : Option ReadingEnd) (there : Bool) → there ≡ is_some why → there ≡ true →

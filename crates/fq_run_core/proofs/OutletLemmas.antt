@@ -1,22 +1,17 @@
 -- What outlets took, one text after another.
-use Rattle.std.proofs.Common.{◌≡◌, ℕ, Option, Some, None, Result, Err, List, [], ◌++◌, refl, sym, ap, subst, ◌∙◌, arith, append_assoc}
+use Rattle.std.proofs.Common.{◌≡◌, ℕ, Option, Some, None, Result, Err, List, [], ◌++◌, refl, arith}
 use Rattle.std.specs.Option.{IfSome}
-use Rattle.std.proofs.lemmas.List.{append-nil}
+use Rattle.std.proofs.lemmas.Grind.{common_steps}
 use Rattle.fq_pair.specs.declared.out.Out.{Out}
 use Rattle.fq_pair.specs.declared.out.Out.TheVariants.{ForwardPaired, ForwardUnpaired, ReversePaired, ReverseUnpaired, Log}
 use Rattle.fq_pair.specs.Outputs.{Outputs}
 use Rattle.fq_text.specs.Devices.{OutletState}
-use Rattle.fq_run_core.specs.Devices.{OutletStates, AreHealthy, outlet_at, TookText, Took, OutletsTook, failures_at}
+use Rattle.fq_run_core.specs.Devices.{OutletStates, AreHealthy, outlet_at, TookText, Took, OutletsTook}
 use Rattle.fq_run_core.specs.Sending.{BreaksAt, Sends, FailsIn}
 
 -- nothing
 pub took_nothing : (o : OutletState) → TookText o o [] 0
-took_nothing o = record {
-  told = refl;
-  bytes = λ told. sym (append-nil o.taken);
-  failures =
-      omega arith;
-}
+took_nothing o = grind (arith, common_steps)
 
 -- an outlet that is as it was took nothing, and so did one that is left out
 pub took_none : (o : Option OutletState) → Took o o [] 0
@@ -27,43 +22,16 @@ took_none (Some o) = took_nothing o
 pub all_took_none : (o : OutletStates) → OutletsTook o o (λ out. []) None
 all_took_none o out = took_none (outlet_at out o)
 
--- one text after another
-took_then : (a b c : OutletState) (s t : List ℕ) (n : ℕ) → TookText a b s 0 → TookText b c t n →
-    TookText a c (s ++ t) n
-took_then a b c s t n p q =
-    let first = p.failures in let second = q.failures in
-    record {
-      told = q.told ∙ p.told;
-      bytes = λ told. q.bytes (p.told ∙ told) ∙ ap (λ xs. xs ++ t) (p.bytes told)
-          ∙ append_assoc a.taken s t;
-      failures = omega arith;
-    }
-
-took_both : (a b c : Option OutletState) (s t : List ℕ) (n : ℕ) → Took a b s 0 → Took b c t n →
-    Took a c (s ++ t) n
-took_both None None None s t n p q = q
-took_both None None (Some c) s t n p q = absurd q
-took_both None (Some b) c s t n p q = absurd p
-took_both (Some a) None c s t n p q = absurd p
-took_both (Some a) (Some b) None s t n p q = absurd q
-took_both (Some a) (Some b) (Some c) s t n p q = took_then a b c s t n p q
-
 -- outlets that took one text and then another took the two joined
 pub all_took_then : (a b c : OutletStates) (s t : Out → List ℕ) (failed : Option Out) →
     OutletsTook a b s None → OutletsTook b c t failed →
     OutletsTook a c (λ out. s out ++ t out) failed
-all_took_then a b c s t failed p q out = took_both (outlet_at out a) (outlet_at out b)
-    (outlet_at out c) (s out) (t out) (failures_at failed out) (p out) (q out)
-
--- equal texts may be exchanged
-took_same : (a b : Option OutletState) (s t : List ℕ) (n : ℕ) → s ≡ t → Took a b s n → Took a b t n
-took_same a b s t n is p = let P : List ℕ → Type 0 = λ xs. Took a b xs n in subst P is p
+all_took_then a b c s t failed p q out = grind (arith, common_steps)
 
 -- what outlets took may be exchanged for equal texts
 pub all_took_same : (a b : OutletStates) (s t : Out → List ℕ) (failed : Option Out) →
     ((out : Out) → s out ≡ t out) → OutletsTook a b s failed → OutletsTook a b t failed
-all_took_same a b s t failed is p out = took_same (outlet_at out a) (outlet_at out b) (s out)
-    (t out) (failures_at failed out) (is out) (p out)
+all_took_same a b s t failed is p out = grind (arith, common_steps)
 
 module _ (old new : OutletStates) (texts : Outputs) where
   -- the fourth outlet failed
@@ -73,26 +41,12 @@ module _ (old new : OutletStates) (texts : Outputs) where
       TookText old.reverse_paired new.reverse_paired texts.reverse_paired 0 →
       FailsIn old.reverse_unpaired new.reverse_unpaired texts.reverse_unpaired →
       BreaksAt old new texts ReverseUnpaired
-  fourth_breaks log a b c d =
-      let P : Option OutletState → Type 0 = λ o. Took old.log o [] 0 in
-      record {
-        sent = d.sent;
-        short = d.short;
-        took = elim [
-          | ForwardPaired ↦ a
-          | ForwardUnpaired ↦ b
-          | ReversePaired ↦ c
-          | ReverseUnpaired
-              ↦ d.took
-          | Log ↦ subst P (sym log) (took_none old.log)
-        ];
-      }
+  fourth_breaks log a b c d = grind (arith, common_steps)
 
   -- a write that broke at an outlet keeps its promise if it returns that outlet
   pub broken : (failed : Out) (r : Result (Unit {0}) Out) → r ≡ Err failed →
       BreaksAt old new texts failed → Sends old new texts r
-  broken failed r is p = let P : Result (Unit {0}) Out → Type 0 = λ s. Sends old new texts s in
-      subst P (sym is) p
+  broken failed r is p = grind (arith, common_steps)
 
 -- outlets without failures still have none if none failed
 still : (a b : OutletState) (s : List ℕ) → a.failures ≡ 0 → TookText a b s 0 → b.failures ≡ 0

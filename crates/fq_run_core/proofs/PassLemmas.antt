@@ -1,5 +1,6 @@
 -- From the feeds to the outlets.
-use Rattle.std.proofs.Common.{◌≡◌, false, Option, Some, None, [], ◌++◌, refl, sym, ap, subst, ◌∙◌}
+use Rattle.std.proofs.Common.{arith, ◌≡◌, false, Option, Some, None, [], ◌++◌, refl, sym, ap}
+use Rattle.std.proofs.lemmas.Grind.{common_steps}
 use Rattle.fq_pair.specs.declared.out.Out.{Out}
 use Rattle.fq_pair.specs.Outputs.{text_of, texts_of}
 use Rattle.fq_text.specs.declared.memory.MemoryRefused.{MemoryRefused}
@@ -63,19 +64,13 @@ runs_refused refused form c f r f' r' o counted same also none =
 pub passes_unasked : (refused : MemoryRefused) (c : Choices) (old : SourceState) (o : OutletStates)
     (total : Total) (w : Written) → old.last ≡ None → w ≡ nothing_written None → total ≡ w.total →
     Passes c old old o o total no_halt (Some (reading.Memory refused)) w.failed
-passes_unasked refused c old o total w goes is same =
-    let P : Written → Type 0 =
-    λ x. Passes c old old o o total no_halt (Some (reading.Memory refused)) x.failed in
-    subst P (sym is)
-    (passes_refused refused c old o total goes (same ∙ ap (λ (x : Written). x.total) is))
+passes_unasked refused c old o total w goes is same = grind (arith, common_steps, passes_refused)
 
 -- memory was refused to a run, and its feeds and outlets are as they were
 pub runs_nothing : (refused : MemoryRefused) (form : Form) (c : Choices) (f r f' r' : FeedState)
     (o : OutletStates) (w : Written) → w ≡ nothing_written (Some (reading.Memory refused)) →
     f' ≡ f → r' ≡ r → Runs form c f r f' r' o o w.total no_halt w.why w.failed
-runs_nothing refused form c f r f' r' o w is same also =
-    let P : Written → Type 0 = λ x. Runs form c f r f' r' o o x.total no_halt x.why x.failed in
-    subst P (sym is) (runs_refused refused form c f r f' r' o (no_total false) same also refl)
+runs_nothing refused form c f r f' r' o w is same also = grind (arith, common_steps, runs_refused)
 
 -- what was read from a fresh source and written
 pub runs_passed : (form : Form) (c : Choices) (f r f' r' : FeedState) (old new : SourceState)
@@ -85,5 +80,4 @@ pub runs_passed : (form : Form) (c : Choices) (f r f' r' : FeedState) (old new :
     Passes c old new before after counted halt why failed →
     Runs form c f r f' r' before after counted halt why failed
 runs_passed form c f r f' r' old new before after counted halt why failed is first second p =
-    let P : SourceState → Type 0 = λ s. Passes c s new before after counted halt why failed in
-    record { new = new; passes = subst P is p; forward = first; reverse = second }
+    grind (arith, common_steps)

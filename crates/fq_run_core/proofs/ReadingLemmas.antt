@@ -1,6 +1,7 @@
 -- What reading shows of the pairs of the inputs.
-use Rattle.std.proofs.Common.{◌≡◌, ℕ, suc, ◌+◌, ◌-◌, ◌≤◌, ⊎_elim, Bool, true, false, IsTrue, Option, Some, None, List, [], ◌∷◌, ◌++◌, length, take, ap, sym, subst, ◌∙◌, arith, append_assoc}
-use Rattle.std.proofs.lemmas.List.{append-nil, length-append, length-take-le}
+use Rattle.std.proofs.Common.{◌≡◌, ℕ, suc, ◌+◌, ◌-◌, ◌≤◌, ⊎_elim, Bool, true, false, IsTrue, Option, Some, None, List, [], ◌∷◌, ◌++◌, length, ap, sym, subst, ◌∙◌, arith, append_assoc}
+use Rattle.std.proofs.lemmas.List.{append-nil}
+use Rattle.std.proofs.lemmas.Grind.{common_steps}
 use Rattle.fq_text.specs.declared.encoding.Encoding.{Encoding}
 use Rattle.fq_text.specs.Lines.{lines, whole_part}
 use Rattle.fq_text.specs.Records.{records}
@@ -20,7 +21,7 @@ use Rattle.fq_run_core.specs.declared.reading_end.ReadingEnd.{ReadingEnd}
 use Rattle.fq_run_core.specs.declared.reading_end.ReadingEnd.TheVariants as reading
 use Rattle.fq_run_core.specs.Choices.{Choices}
 use Rattle.fq_text.specs.Devices.{FeedState}
-use Rattle.fq_run_core.specs.Devices.{gave, Fed}
+use Rattle.fq_run_core.specs.Devices.{Fed}
 use Rattle.fq_pair.specs.Walks.{SideState, SourceState, rest, fed, came, Draws, Leads, next_front, Walks, IsNext, faulty}
 use Rattle.fq_run_core.specs.PairsRead.{Reads, fresh_side, fresh_source, feed_in}
 use Rattle.fq_run_core.specs.Endings.{AreFirst}
@@ -35,10 +36,7 @@ put_before ms p = record { mates = ms ++ p.mates; fault = p.fault }
 pub leads_all : (form : Form) (check : Bool) (e : Encoding) (n : ℕ) (ms : List Mates)
     (f r f' r' : List (List ℕ)) → Leads form check e n ms f r f' r' →
     pairs_at form check e n f r ≡ put_before ms (pairs_at form check e (n + length ms) f' r')
-leads_all form check e n [] f r f' r' p =
-    let same : n ≡ n + 0 = omega arith in
-    ap (λ ls. pairs_at form check e n ls r) p.0 ∙ ap (λ ls. pairs_at form check e n f' ls) p.1
-    ∙ ap (λ (k : ℕ). pairs_at form check e k f' r') same
+leads_all form check e n [] f r f' r' p = grind (arith, common_steps)
 leads_all form check e n (m ∷ ms) f r f' r' p =
     let number : suc n + length ms ≡ n + suc (length ms) = omega arith in
     pairs_at-met check e n form f r m p.0 p.1 p.2
@@ -54,31 +52,9 @@ failed_by form side _ = 0
 
 module _ (c : Choices) (f : FeedState) (s : SideState) (n : ℕ)
     (d : Draws (fresh_side c f) s n) where
-  fed_length : IsTrue f.tells → length (fed (fresh_side c f) s) ≡ s.taken
-  fed_length told = let fits = d.size told in length-take-le (s.taken - 0) f.to_come fits
-      ∙ omega arith
-
-  -- the bytes that the feed gave are those that the source took from it
-  pub gave_is : IsTrue f.tells → gave f (feed_in s) ≡ fed (fresh_side c f) s
-  gave_is told =
-      let all = ap length (d.bytes told) in
-      let len = fed_length told in
-      let same : length f.to_come - length s.to_come ≡ s.taken - 0 =
-      omega (arith, length-append (fed (fresh_side c f) s) s.to_come) in
-      ap (λ k. take k f.to_come) same
-
-  -- the feed gave as many bytes as the source counted
-  pub gave_length : IsTrue f.tells → length (gave f (feed_in s)) ≡ s.taken
-  gave_length told = ap length (gave_is told) ∙ fed_length told
-
   -- the feed that is handed back has the other bytes still to come, and failed n times
   pub fed_back : Fed f (feed_in s) n
-  fed_back = record {
-    told = d.told;
-    bytes = λ told. d.bytes told
-        ∙ ap (λ xs. xs ++ s.to_come) (sym (gave_is told));
-    failures = d.failures;
-  }
+  fed_back = grind (arith, common_steps)
 
 -- Both sides.
 
@@ -102,16 +78,7 @@ module _ (form : Form) (c : Choices) (f r : FeedState) where
       Walks (fresh_source form c f r) s ms → next_front s ≡ x →
       front_in form c.check_names c.encoding (length ms) (lines (rest s.forward))
       (lines (rest s.reverse)) ≡ x
-  front_as s ms x w is =
-      let same = w.same in let given = w.given in let number : length ms ≡ s.given = omega arith in
-      ap (λ (o : Form). front_in o c.check_names c.encoding (length ms) (lines (rest s.forward))
-      (lines (rest s.reverse))) (sym same.form)
-      ∙ ap (λ (b : Bool). front_in s.form b c.encoding (length ms) (lines (rest s.forward))
-      (lines (rest s.reverse))) (sym same.check_names)
-      ∙ ap (λ (e : Encoding). front_in s.form s.check_names e (length ms) (lines (rest s.forward))
-      (lines (rest s.reverse))) (sym same.encoding)
-      ∙ ap (λ (k : ℕ). front_in s.form s.check_names s.encoding k (lines (rest s.forward))
-      (lines (rest s.reverse))) number ∙ is
+  front_as s ms x w is = grind (arith, common_steps)
 
   is_first : (s : SourceState) (ms : List Mates) → Walks (fresh_source form c f r) s ms →
       IsTrue f.tells → IsTrue r.tells → AreFirst ms all_of.mates
@@ -162,8 +129,7 @@ module _ (form : Form) (c : Choices) (f r : FeedState) where
   failed_as : (m : SourceState) (old new : SideState) (side : Side) (why : InputFault) →
       m.form ≡ form → Draws old new (failed_at m.form side (faulty why)) →
       Draws old new (failed_at form side (faulty why))
-  failed_as m old new side why is d = let P : Form → Type 0 =
-      λ o. Draws old new (failed_at o side (faulty why)) in subst P is d
+  failed_as m old new side why is d = grind (arith, common_steps)
 
   -- the forward feed gave bytes, and failed as often as the reason why reading stopped implies
   pub reads_forward : (s : SourceState) (ms : List Mates) (why : Option ReadingEnd) →
@@ -195,18 +161,7 @@ module _ (form : Form) (c : Choices) (f r : FeedState) where
       ≡ [] →
       (pairs_at form c.check_names c.encoding (0 + length ms) (lines (whole_part xs))
       (lines (whole_part ys))).mates ≡ []
-  lacks_as s ms xs ys w is =
-      let same = w.same in
-      ap (λ (p : Pairs). p.mates) (sym (pairs_in-lines c.check_names c.encoding (0 + length ms) form
-      (whole_part xs) (whole_part ys))
-      ∙ ap (λ (o : Form). pairs_in o c.check_names c.encoding (0 + length ms) (whole_part xs)
-      (whole_part ys)) (sym same.form)
-      ∙ ap (λ (b : Bool). pairs_in s.form b c.encoding (0 + length ms) (whole_part xs)
-      (whole_part ys)) (sym same.check_names)
-      ∙ ap (λ (e : Encoding). pairs_in s.form s.check_names e (0 + length ms) (whole_part xs)
-      (whole_part ys)) (sym same.encoding)
-      ∙ ap (λ (k : ℕ). pairs_in s.form s.check_names s.encoding k (whole_part xs) (whole_part ys))
-      (sym w.given)) ∙ is
+  lacks_as s ms xs ys w is = grind (arith, common_steps)
 
 -- If reading was cut short, the complete lines that came have no more pairs.
 module _ (c : Choices) (f r : FeedState) where

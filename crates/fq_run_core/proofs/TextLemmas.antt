@@ -1,7 +1,7 @@
 -- The texts and counts of pairs, one list after another.
-use Rattle.std.proofs.Common.{◌≡◌, ℕ, ◌+◌, ◌<◌, ◌≤◌, ◌^◌, Bool, List, [], ◌∷◌, ◌++◌, length, filter, ⊎_elim, refl, sym, ap, ◌∙◌, arith}
+use Rattle.std.proofs.Common.{◌≡◌, ℕ, ◌+◌, ◌<◌, ◌≤◌, ◌^◌, Bool, List, [], ◌∷◌, ◌++◌, length, filter, refl, ap, arith}
 use Rattle.std.proofs.Math.Nat.{min-eq_left}
-use Rattle.std.proofs.lemmas.Bool.{cond-true, cond-false, cases_Bool}
+use Rattle.std.proofs.lemmas.Grind.{common_steps}
 use Rattle.fq_trim.specs.declared.step.Step.{Step}
 use Rattle.fq_trim.specs.Sums.{capped_sum}
 use Rattle.fq_pair.specs.declared.counts.Counts.{Counts}
@@ -9,21 +9,12 @@ use Rattle.fq_pair.specs.declared.out.Out.{Out}
 use Rattle.fq_pair.specs.declared.out.Out.TheVariants.{ForwardPaired, ForwardUnpaired, ReversePaired, ReverseUnpaired, Log}
 use Rattle.fq_pair.specs.Mates.{Mates}
 use Rattle.fq_pair.specs.Summaries.{capped}
-use Rattle.fq_pair.specs.Outputs.{Outputs, texts_of, text_of, counts_of, sum_of, both_survive, forward_alone, reverse_alone, none_survive}
+use Rattle.fq_pair.specs.Outputs.{Outputs, texts_of, text_of, counts_of, sum_of}
 use Rattle.fq_pair.proofs.OutputLaws.{texts_of-append}
 
 module _ (steps : List Step) (ms ns : List Mates) where
   counts_then : counts_of steps (ms ++ ns) ≡ sum_of (counts_of steps ms) (counts_of steps ns)
   counts_then = ap (λ (t : Outputs). t.counts) (texts_of-append steps ms ns)
-
-  -- the texts of one list of pairs and then another are the texts of each, joined
-  pub text_then : (out : Out) → text_of out (texts_of steps (ms ++ ns)) ≡ text_of out
-      (texts_of steps ms) ++ text_of out (texts_of steps ns)
-  text_then ForwardPaired = ap (λ (t : Outputs). t.forward_paired) (texts_of-append steps ms ns)
-  text_then ForwardUnpaired = ap (λ (t : Outputs). t.forward_unpaired) (texts_of-append steps ms ns)
-  text_then ReversePaired = ap (λ (t : Outputs). t.reverse_paired) (texts_of-append steps ms ns)
-  text_then ReverseUnpaired = ap (λ (t : Outputs). t.reverse_unpaired) (texts_of-append steps ms ns)
-  text_then Log = ap (λ (t : Outputs). t.log) (texts_of-append steps ms ns)
 
 -- no pairs have no texts
 pub no_text : (steps : List Step) (out : Out) → text_of out (texts_of steps []) ≡ []
@@ -41,14 +32,7 @@ some_pair steps out (m ∷ ms) n some = omega arith
 
 fewer : (test : Mates → Bool) (ms : List Mates) → length (filter test ms) ≤ length ms
 fewer test [] = omega arith
-fewer test (m ∷ ms) =
-    let rest = fewer test ms in
-    ⊎_elim
-    (λ passes. let e =
-    ap length (cond-true (test m) (m ∷ filter test ms) (filter test ms) passes) in omega arith)
-    (λ fails. let e = ap length (cond-false (test m) (m ∷ filter test ms) (filter test ms) fails) in
-    omega arith)
-    (cases_Bool (test m))
+fewer test (m ∷ ms) = grind (arith, common_steps, fewer test ms)
 
 capped_small : (a b : ℕ) → a + b < 2 ^ 62 → capped_sum a b ≡ a + b
 capped_small a b small = min-eq_left (omega arith)
@@ -58,14 +42,4 @@ pub counts_added : (steps : List Step) (ms ns : List Mates) (a b : Counts) →
     a ≡ counts_of steps ms → b ≡ counts_of steps ns → length ms + length ns < 2 ^ 62 →
     capped a b ≡ counts_of steps (ms ++ ns)
 counts_added steps ms ns a b first second small =
-    let test = λ (t : Mates → Bool). capped_small (length (filter t ms)) (length (filter t ns))
-    (let m = fewer t ms in let n = fewer t ns in omega arith) in
-    let all = capped_small (length ms) (length ns) small in
-    let both = test (both_survive steps) in
-    let forward = test (forward_alone steps) in
-    let reverse = test (reverse_alone steps) in
-    let none = test (none_survive steps) in
-    let sums : capped (counts_of steps ms) (counts_of steps ns)
-    ≡ sum_of (counts_of steps ms) (counts_of steps ns) = cc in
-    ap (λ (x : Counts). capped x b) first ∙ ap (capped (counts_of steps ms)) second ∙ sums
-    ∙ sym (counts_then steps ms ns)
+    grind (arith, common_steps, capped_small, filter, fewer, counts_then)

@@ -1,5 +1,6 @@
 -- Which outcome a run has, and what it implies.
 use Rattle.std.proofs.Common.{◌≡◌, ◌<◌, ◌≤◌, Bool, true, false, ◌||◌, Option, Some, None, is_some, refl, sym, ap, ◌∙◌, arith}
+use Rattle.std.proofs.lemmas.Grind.{common_steps}
 use Rattle.fq_text.specs.declared.fault.TextFault.TheVariants as text
 use Rattle.fq_text.specs.declared.memory.MemoryRefused.{MemoryRefused}
 use Rattle.fq_pair.specs.declared.out.Out.{Out}
@@ -7,7 +8,7 @@ use Rattle.fq_pair.specs.declared.side.Side.{Side}
 use Rattle.fq_pair.specs.declared.side.Side.TheVariants.{Forward, Reverse}
 use Rattle.fq_pair.specs.declared.fault.InputFault.{InputFault}
 use Rattle.fq_pair.specs.declared.fault.InputFault.TheVariants.{Text}
-use Rattle.fq_pair.specs.PairSources.{is_from_outside, failed_on}
+use Rattle.fq_pair.specs.PairSources.{is_from_outside}
 use Rattle.fq_pair.specs.Forms.{Form, TwoTexts, InterleavedText, failed_at}
 use Rattle.fq_run_core.specs.declared.outcome.Outcome.{Outcome}
 use Rattle.fq_run_core.specs.declared.outcome.Outcome.TheVariants.{Spawn, Gate, Memory, Write, Read, Endless, Input, Finished}
@@ -99,27 +100,6 @@ verdict halt why failed over = halt_verdict halt.gate halt.memory why failed ove
 
 -- How often a feed failed.
 
-endless_none : (form : Form) (side other : Side) →
-    failed_at form side (faulty (Text other text.Endless)) ≡ 0
-endless_none TwoTexts Forward Forward = refl
-endless_none TwoTexts Forward Reverse = refl
-endless_none TwoTexts Reverse Forward = refl
-endless_none TwoTexts Reverse Reverse = refl
-endless_none InterleavedText side Forward = refl
-endless_none InterleavedText side Reverse = refl
-
-inside_one : (side : Side) (fault : InputFault) → is_from_outside fault ≡ false →
-    failed_on side (faulty fault) ≡ 0
-inside_one Forward (Text Forward text.Read) is = absurd cc
-inside_one Reverse (Text Reverse text.Read) is = absurd cc
-inside_one _ _ is = refl
-
-inside_none : (form : Form) (side : Side) (fault : InputFault) → is_from_outside fault ≡ false →
-    failed_at form side (faulty fault) ≡ 0
-inside_none TwoTexts side fault is = inside_one side fault is
-inside_none InterleavedText side fault is = let f = inside_one Forward fault is in let r =
-    inside_one Reverse fault is in omega arith
-
 -- the feed of a side failed once if a read call for that side failed
 pub read_once : (form : Form) (side : Side) →
     failed_by form side (Some (reading.Fault (Text side text.Read))) ≡ 1
@@ -159,8 +139,7 @@ module _ (halt : Halt) (why : Option ReadingEnd) (failed : Option Out) (o : Outc
 
   -- if no worker stopped, the outcome is not `Spawn`, `Lane` or `Gate`
   pub is_serial : halt ≡ no_halt → Verdict halt why failed o → 4 ≤ rank o
-  is_serial sound (IsRefused at is) = absurd (let e = sym at ∙ ap (λ (h : Halt). h.gate) sound in
-      cc)
+  is_serial sound (IsRefused at is) = grind (arith, common_steps)
   is_serial sound (WantsMemory is) = let e = ap rank is in omega arith
   is_serial sound (FailedAt out at going enough is) = let e = ap rank is in omega arith
   is_serial sound (CannotRead side none going at is) = let e = ap rank is in omega arith
@@ -177,8 +156,7 @@ module _ (halt : Halt) (why : Option ReadingEnd) (failed : Option Out) (o : Outc
       (failed ≡ Some out) × (halt ≡ no_halt) × (lacks_memory why ≡ false)
   at_write (IsRefused there is) out at = absurd (let e = sym is ∙ at in cc)
   at_write (WantsMemory is) out at = absurd (let e = sym is ∙ at in cc)
-  at_write (FailedAt x there going enough is) out at = let e = sym is ∙ at in let same : x ≡ out =
-      cc in (there ∙ ap Some same, going, enough)
+  at_write (FailedAt x there going enough is) out at = grind (arith, common_steps)
   at_write (CannotRead side none going there is) out at = absurd (let e = sym is ∙ at in cc)
   at_write (HasNoEnd side none going there is) out at = absurd (let e = sym is ∙ at in cc)
   at_write (HasFault fault none going there inside is) out at = absurd (let e = sym is ∙ at in cc)
@@ -190,9 +168,7 @@ module _ (halt : Halt) (why : Option ReadingEnd) (failed : Option Out) (o : Outc
   at_read (IsRefused there is) side at = absurd (let e = sym is ∙ at in cc)
   at_read (WantsMemory is) side at = absurd (let e = sym is ∙ at in cc)
   at_read (FailedAt x there going enough is) side at = absurd (let e = sym is ∙ at in cc)
-  at_read (CannotRead x none going there is) side at =
-      let e = sym is ∙ at in let same : x ≡ side = cc in
-      (there ∙ ap (λ (s : Side). Some (reading.Fault (Text s text.Read))) same, none, going)
+  at_read (CannotRead x none going there is) side at = grind (arith, common_steps)
   at_read (HasNoEnd x none going there is) side at = absurd (let e = sym is ∙ at in cc)
   at_read (HasFault fault none going there inside is) side at = absurd (let e = sym is ∙ at in cc)
   at_read (IsOver none going there is) side at = absurd (let e = sym is ∙ at in cc)
@@ -204,11 +180,8 @@ module _ (halt : Halt) (why : Option ReadingEnd) (failed : Option Out) (o : Outc
   at_endless (WantsMemory is) side at = absurd (let e = sym is ∙ at in cc)
   at_endless (FailedAt x there going enough is) side at = absurd (let e = sym is ∙ at in cc)
   at_endless (CannotRead x none going there is) side at = absurd (let e = sym is ∙ at in cc)
-  at_endless (HasNoEnd x none going there is) side at =
-      let e = sym is ∙ at in let same : x ≡ side = cc in
-      (there ∙ ap (λ (s : Side). Some (reading.Fault (Text s text.Endless))) same, none, going)
-  at_endless (HasFault fault none going there inside is) side at =
-      absurd (let e = sym is ∙ at in cc)
+  at_endless (HasNoEnd x none going there is) side at = grind (arith, common_steps)
+  at_endless (HasFault fault none going there inside is) side at = grind (arith, common_steps)
   at_endless (IsOver none going there is) side at = absurd (let e = sym is ∙ at in cc)
 
   -- if an outlet failed, the outcome is `Write` or comes before it in the order of precedence
@@ -218,8 +191,7 @@ module _ (halt : Halt) (why : Option ReadingEnd) (failed : Option Out) (o : Outc
   outlet_first (FailedAt x there going enough is) out at = let e = ap rank is in omega arith
   outlet_first (CannotRead side none going there is) out at = absurd (let e = sym none ∙ at in cc)
   outlet_first (HasNoEnd side none going there is) out at = absurd (let e = sym none ∙ at in cc)
-  outlet_first (HasFault fault none going there inside is) out at =
-      absurd (let e = sym none ∙ at in cc)
+  outlet_first (HasFault fault none going there inside is) out at = grind (arith, common_steps)
   outlet_first (IsOver none going there is) out at = absurd (let e = sym none ∙ at in cc)
 
   -- if a feed failed, the outcome is `Read` or comes before it in the order of precedence
@@ -229,10 +201,7 @@ module _ (halt : Halt) (why : Option ReadingEnd) (failed : Option Out) (o : Outc
   feed_first form (WantsMemory is) side some = let e = ap rank is in omega arith
   feed_first form (FailedAt x there going enough is) side some = let e = ap rank is in omega arith
   feed_first form (CannotRead x none going there is) side some = let e = ap rank is in omega arith
-  feed_first form (HasNoEnd x none going there is) side some =
-      absurd (let e = ap (failed_by form side) there ∙ endless_none form side x in omega arith)
+  feed_first form (HasNoEnd x none going there is) side some = grind (arith, common_steps)
   feed_first form (HasFault fault none going there inside is) side some =
-      absurd (let e = ap (failed_by form side) there ∙ inside_none form side fault inside in
-      omega arith)
-  feed_first form (IsOver none going there is) side some =
-      absurd (let e = ap (failed_by form side) there in omega arith)
+      grind (arith, common_steps)
+  feed_first form (IsOver none going there is) side some = grind (arith, common_steps)

@@ -1,37 +1,19 @@
 -- Reading pairs, one list of them after another.
-use Rattle.std.proofs.Common.{◌≡◌, ℕ, suc, ◌+◌, ◌-◌, inl, Bool, Option, Some, None, List, [], ◌∷◌, ◌++◌, length, take, refl, sym, ap, subst, ◌∙◌, arith, append_assoc}
+use Rattle.std.proofs.Common.{◌≡◌, ℕ, suc, ◌+◌, ◌-◌, Bool, Option, Some, None, List, [], ◌∷◌, ◌++◌, length, refl, sym, subst, ◌∙◌, arith, append_assoc}
 use Rattle.std.specs.Option.{IfSome, IsSome, IsSomeAnd}
 use Rattle.std.proofs.lemmas.List.{length-append}
+use Rattle.std.proofs.lemmas.Grind.{common_steps}
 use Rattle.fq_text.specs.declared.encoding.Encoding.{Encoding}
 use Rattle.fq_text.specs.Lines.{lines}
-use Rattle.fq_pair.specs.Forms.{Form, TwoTexts, InterleavedText, records_of_pairs}
+use Rattle.fq_pair.specs.Forms.{Form, records_of_pairs}
 use Rattle.fq_pair.specs.Mates.{Mates}
 use Rattle.fq_run_core.specs.declared.reading_end.ReadingEnd.{ReadingEnd}
 use Rattle.fq_run_core.specs.declared.reading_end.ReadingEnd.TheVariants as reading
-use Rattle.fq_pair.specs.Walks.{SideState, SourceState, rest, fed, Draws, Uses, KeepsSettings, Leads, Walks}
-use Rattle.fq_pair.proofs.SideLemmas.{draws_then, uses_then, records_then}
+use Rattle.fq_pair.specs.Walks.{SourceState, rest, KeepsSettings, Leads, Walks}
+use Rattle.fq_pair.proofs.SideLemmas.{draws_then, uses_then}
 use Rattle.fq_run_core.specs.PairsRead.{Reads}
 
 -- One side.
-
-fed_none : (s : SideState) → s.to_come ≡ fed s s ++ s.to_come
-fed_none s = let none : s.taken - s.taken ≡ 0 = omega arith in
-    ap (λ n. take n s.to_come ++ s.to_come) (sym none)
-
-draws_none : (s : SideState) → Draws s s 0
-draws_none s = record {
-  told = refl;
-  max_reads = refl;
-  grows = omega arith;
-  ended =
-      λ over. over;
-  bytes = λ told. fed_none s;
-  size = λ told. omega arith;
-  failures = omega arith;
-}
-
-uses_none : (s : SideState) → Uses s s
-uses_none s = record { used = []; split = refl; at_line = inl refl }
 
 -- Both.
 
@@ -39,70 +21,28 @@ leads_then : (form : Form) (check : Bool) (e : Encoding) (m n : ℕ) (ms ns : Li
     (f r f' r' f'' r'' : List (List ℕ)) → n ≡ m + length ms →
     Leads form check e m ms f r f' r' → Leads form check e n ns f' r' f'' r'' →
     Leads form check e m (ms ++ ns) f r f'' r''
-leads_then form check e m n [] ns f r f' r' f'' r'' is p q =
-    let same : n ≡ m = omega arith in
-    let P : ℕ → Type 0 = λ k. Leads form check e k ns f r f'' r'' in
-    let Q : List (List ℕ) → Type 0 = λ ls. Leads form check e n ns ls r f'' r'' in
-    let R : List (List ℕ) → Type 0 = λ ls. Leads form check e n ns f' ls f'' r'' in
-    subst P same (subst Q (sym p.0) (subst R (sym p.1) q))
-leads_then form check e m n (x ∷ ms) ns f r f' r' f'' r'' is p q = (
-  p.0,
-  p.1,
-  p.2,
-  leads_then form check e (suc m) n ms ns p.0 p.1 f' r' f'' r'' (omega arith) p.3
-      q,
-)
+leads_then form check e m n [] ns f r f' r' f'' r'' is p q = grind (arith, common_steps)
+leads_then form check e m n (x ∷ ms) ns f r f' r' f'' r'' is p q =
+    grind (arith, common_steps, leads_then form check e (suc m) n ms ns p.0 p.1 f' r' f'' r'')
 
 leads_as : (form form' : Form) (check check' : Bool) (e e' : Encoding) (n : ℕ) (ms : List Mates)
     (f r f' r' : List (List ℕ)) → form' ≡ form → check' ≡ check → e' ≡ e →
     Leads form' check' e' n ms f r f' r' → Leads form check e n ms f r f' r'
 leads_as form form' check check' e e' n ms f r f' r' formed is encoded p =
-    let P : Bool → Type 0 = λ c. Leads form c e n ms f r f' r' in let Q : Encoding → Type 0 =
-    λ d. Leads form check' d n ms f r f' r' in
-    let R : Form → Type 0 = λ x. Leads x check' e' n ms f r f' r' in
-    subst P is (subst Q encoded (subst R formed p))
-
-same_none : (s : SourceState) → KeepsSettings s s
-same_none s = record { form = refl; encoding = refl; check_names = refl; most_bytes = refl }
+    grind (arith, common_steps)
 
 -- if two calls, one after the other, keep the settings, so do both together
 pub same_then : (a b c : SourceState) → KeepsSettings a b → KeepsSettings b c → KeepsSettings a c
-same_then a b c p q = record {
-  form = q.form ∙ p.form;
-  encoding = q.encoding
-      ∙ p.encoding;
-  check_names = q.check_names ∙ p.check_names;
-  most_bytes = q.most_bytes
-      ∙ p.most_bytes;
-}
-
-records_none : (form : Form) (given : ℕ) → given ≡ given + records_of_pairs form 0
-records_none TwoTexts given = omega arith
-records_none InterleavedText given = omega arith
+same_then a b c p q = grind (arith, common_steps)
 
 records_both : (form form' : Form) (a b c : ℕ) (ms ns : List Mates) → form' ≡ form →
     b ≡ a + records_of_pairs form (length ms) → c ≡ b + records_of_pairs form' (length ns) →
     c ≡ a + records_of_pairs form (length (ms ++ ns))
-records_both form form' a b c ms ns same p q =
-    let there = ap (λ (x : Form). records_of_pairs x (length ns)) same in
-    let len = ap (records_of_pairs form) (length-append ms ns)
-    ∙ records_then form (length ms) (length ns) in
-    omega arith
+records_both form form' a b c ms ns same p q = grind (arith, common_steps)
 
 -- no pairs were read from a source that is as it was
 pub walks_none : (s : SourceState) → s.last ≡ None → Walks s s []
-walks_none s going = record {
-  same = same_none s;
-  given = omega arith;
-  forward_records = records_none s.form s.forward.given;
-  reverse_records = records_none s.form s.reverse.given;
-  last = going;
-  forward = draws_none s.forward;
-  reverse = draws_none s.reverse;
-  forward_used = λ told. uses_none s.forward;
-  reverse_used = λ told. uses_none s.reverse;
-  leads = λ f r. (refl, refl);
-}
+walks_none s going = grind (arith, common_steps)
 
 -- pairs that were read, and then others, were all read, in this order
 pub walks_then : (a b c : SourceState) (ms ns : List Mates) → Walks a b ms → Walks b c ns →

@@ -3,10 +3,11 @@ use Rattle.std.proofs.Common.{◌≡◌, ℕ, ◌+◌, ◌-◌, ◌≤◌, Bool,
 use Rattle.std.specs.List.{concat, list_all}
 use Rattle.std.proofs.lemmas.List.{length-append}
 use Rattle.std.proofs.lemmas.List.Folds.{list_all-append}
-use Rattle.std.proofs.lemmas.Bool.{cond-true, cond-false, cases_Bool, and_parts, and_from, not-false, not_from_false, ltb-false, eqb-true}
+use Rattle.std.proofs.lemmas.Bool.{cond-false, cases_Bool, and_parts, and_from, not-false, not_from_false, ltb-false, eqb-true}
+use Rattle.std.proofs.lemmas.Grind.{common_steps}
 use Rattle.fq_text.specs.Scores.{is_scored}
-use Rattle.fq_text.specs.Lines.{pieces, before_first_piece, without_cr, lines}
-use Rattle.fq_text.specs.Grammar.{limit, is_base, IsLawful, Front, End, Faulty, Found, Read, begins_with, before_plus, from_plus, quality_lines, after_quality, when, is_too_long, title_fault, sequence_fault, plus_fault, quality_fault, or_else, sequence_faults, quality_faults, unless_faulty, completed, from_quality_lines, from_plus_line, from_title_line, front}
+use Rattle.fq_text.specs.Lines.{pieces, without_cr, lines}
+use Rattle.fq_text.specs.Grammar.{limit, is_base, IsLawful, Front, End, Found, Read, begins_with, before_plus, from_plus, quality_lines, after_quality, when, is_too_long, title_fault, sequence_fault, quality_fault, or_else, sequence_faults, quality_faults, unless_faulty, completed, from_plus_line, from_title_line, front}
 use Rattle.fq_text.specs.declared.encoding.Encoding.{Encoding}
 use Rattle.fq_text.specs.declared.fault.Fault.{Fault}
 use Rattle.fq_text.specs.declared.fault.Fault.TheVariants as fault
@@ -18,27 +19,13 @@ not_lf b = not (eqb b 10)
 abbrev pub clean : List ℕ → Bool
 clean l = list_all not_lf l
 
-clean_first : (b : ℕ) (ps : List (List ℕ)) → eqb b 10 ≡ false → list_all clean ps ≡ true →
-    list_all clean (before_first_piece b ps) ≡ true
-clean_first b [] off all = and_from _ _ (and_from _ _ (not_from_false _ off) refl) refl
-clean_first b (p ∷ ps) off all = let parts = and_parts _ _ all in
-    and_from _ _ (and_from _ _ (not_from_false _ off) parts.0) parts.1
-
 clean_pieces : (text : List ℕ) → list_all clean (pieces text) ≡ true
 clean_pieces [] = refl
-clean_pieces (b ∷ bs) = ⊎_elim
-    (λ yes_is. ap (list_all clean) (cond-true (eqb b 10) ([] ∷ pieces bs) (before_first_piece b
-    (pieces bs)) yes_is) ∙ clean_pieces bs)
-    (λ no_is. ap (list_all clean) (cond-false (eqb b 10) ([] ∷ pieces bs) (before_first_piece b
-    (pieces bs)) no_is) ∙ clean_first b (pieces bs) no_is (clean_pieces bs))
-    (cases_Bool (eqb b 10))
+clean_pieces (b ∷ bs) = grind (arith, common_steps, clean_pieces bs)
 
 clean_without_cr : (l : List ℕ) → clean l ≡ true → clean (without_cr l) ≡ true
 clean_without_cr [] all = refl
-clean_without_cr (b ∷ []) all = ⊎_elim
-    (λ yes_is. ap clean (cond-true (eqb b 13) [] (b ∷ []) yes_is))
-    (λ no_is. ap clean (cond-false (eqb b 13) [] (b ∷ []) no_is) ∙ all)
-    (cases_Bool (eqb b 13))
+clean_without_cr (b ∷ []) all = grind (arith, common_steps)
 clean_without_cr (b ∷ c ∷ bs) all = let parts = and_parts _ _ all in
     and_from _ _ parts.0 (clean_without_cr (c ∷ bs) parts.1)
 
@@ -55,21 +42,17 @@ clean_lines text = clean_map (pieces text) (clean_pieces text)
 -- what a record without fault passed
 pub passed : (o : Option Fault) (found : Front) (r : Read) (ls : List (List ℕ)) →
     unless_faulty o found ≡ Found r ls → (o ≡ None) × (found ≡ Found r ls)
-passed None found r ls is = (refl, is)
-passed (Some f) found r ls is = absurd (let h : Faulty f ≡ Found r ls = is in cc)
+passed o found r ls is = grind (arith, common_steps)
 
 unfaulted : (b : Bool) (f : Fault) (o : Option Fault) → when b f o ≡ None → (b ≡ false) × (o ≡ None)
-unfaulted true f o is = absurd (let h : Some f ≡ None = is in cc)
-unfaulted false f o is = (refl, is)
+unfaulted b f o is = grind (arith, common_steps)
 
 both_none : (o p : Option Fault) → or_else o p ≡ None → (o ≡ None) × (p ≡ None)
-both_none None p is = (refl, is)
-both_none (Some f) p is = absurd (let h : Some f ≡ None = is in cc)
+both_none o p is = grind (arith, common_steps)
 
 begins-append : (m : ℕ) (l rest : List ℕ) → begins_with m l ≡ false → begins_with m rest ≡ false →
     begins_with m (l ++ rest) ≡ false
-begins-append m [] rest first then = then
-begins-append m (b ∷ bs) rest first then = first
+begins-append m l rest first then = grind (arith, common_steps)
 
 record Bases (n : ℕ) (bases : List ℕ) : Type 0 where
   fits : n + length bases ≤ limit
@@ -96,13 +79,7 @@ sound_bases n (l ∷ ls) le sound =
 
 no_plus_before : (ls : List (List ℕ)) → begins_with 43 (concat (before_plus ls)) ≡ false
 no_plus_before [] = refl
-no_plus_before (l ∷ ls) = ⊎_elim
-    (λ plus. ap (λ ms. begins_with 43 (concat ms))
-    (cond-true (begins_with 43 l) [] (l ∷ before_plus ls) plus))
-    (λ plain. ap (λ ms. begins_with 43 (concat ms))
-    (cond-false (begins_with 43 l) [] (l ∷ before_plus ls) plain)
-    ∙ begins-append 43 l (concat (before_plus ls)) plain (no_plus_before ls))
-    (cases_Bool (begins_with 43 l))
+no_plus_before (l ∷ ls) = grind (arith, common_steps, no_plus_before ls)
 
 record Scored (encoding : Encoding) (bases n : ℕ) (quals : List ℕ) : Type 0 where
   fits : n + length quals ≤ bases
@@ -127,10 +104,7 @@ sound_quality encoding bases n (l ∷ ls) le sound =
 
 enough : (n : ℕ) (ls behind : List (List ℕ)) → after_quality n ls ≡ Some behind →
     n ≤ length (concat (quality_lines n ls))
-enough n [] behind is = ⊎_elim
-    (λ none. let e = eqb-true n 0 none in omega arith)
-    (λ some. absurd (let h = sym (cond-false (eqb n 0) (Some []) None some) ∙ is in cc))
-    (cases_Bool (eqb n 0))
+enough n [] behind is = grind (arith, common_steps)
 enough n (l ∷ ls) behind is = ⊎_elim
     (λ none. let e = eqb-true n 0 none in omega arith)
     (λ some.
@@ -146,12 +120,7 @@ enough n (l ∷ ls) behind is = ⊎_elim
 -- only a record whose quality is complete is found, with the lines after it
 pub complete : (r s : Read) (o : Option (List (List ℕ))) (ls : List (List ℕ)) →
     completed r o ≡ Found s ls → (o ≡ Some ls) × (r ≡ s)
-complete r s None ls is = absurd (let h : Faulty fault.QualityShort ≡ Found s ls = is in cc)
-complete r s (Some ms) ls is = (
-  let h : Found r ms ≡ Found s ls = is in cc,
-  let h : Found r ms
-      ≡ Found s ls = is in cc,
-)
+complete r s o ls is = grind (arith, common_steps)
 
 module _ (encoding : Encoding) where
   record Quality (title bases : List ℕ) (r : Read) : Type 0 where
@@ -162,31 +131,8 @@ module _ (encoding : Encoding) where
 
   found_quality : (title bases : List ℕ) (ls : List (List ℕ)) (r : Read) (behind : List (List ℕ)) →
       from_plus_line encoding title bases ls ≡ Found r behind → Quality title bases r
-  found_quality title bases [] r behind is =
-      absurd (let h : Faulty fault.NoPlus ≡ Found r behind = is in cc)
-  found_quality title bases (plus ∷ ls) r behind is =
-      let first = passed (plus_fault title plus) (from_quality_lines encoding title bases ls) r
-      behind is in
-      let scores = quality_lines (length bases) ls in
-      let second = passed (quality_faults encoding (length bases) 0 scores)
-      (completed (record {
-        encoding = encoding;
-        title = title;
-        seq = bases;
-        qual =
-            concat scores;
-      }) (after_quality (length bases) ls)) r behind first.1 in
-      let third = complete (record {
-        encoding = encoding;
-        title = title;
-        seq = bases;
-        qual =
-            concat scores;
-      }) r (after_quality (length bases) ls) behind second.1 in
-      let sound = sound_quality encoding (length bases) 0 scores (omega arith) second.0 in
-      let most = sound.fits in
-      let least = enough (length bases) ls behind third.0 in
-      record { quals = concat scores; is = sym third.1; same = omega arith; valid = sound.valid }
+  found_quality title bases ls r behind is =
+      grind (arith, common_steps, passed, complete, sound_quality, enough)
 
   found_lawful : (b : ℕ) (bs : List ℕ) (ls : List (List ℕ)) (r : Read) (behind : List (List ℕ)) →
       clean (b ∷ bs) ≡ true → from_title_line encoding (b ∷ bs) ls ≡ Found r behind → IsLawful r
@@ -228,8 +174,4 @@ module _ (encoding : Encoding) where
       front encoding ls ≡ Found r behind → r.encoding ≡ encoding
   front_encoding [] r behind is = absurd (let h : End ≡ Found r behind = is in cc)
   front_encoding ([] ∷ ls) r behind is = front_encoding ls r behind is
-  front_encoding ((b ∷ bs) ∷ ls) r behind is =
-      let first = passed (title_fault (b ∷ bs)) _ r behind is in
-      let second = passed (sequence_faults 0 (before_plus ls)) _ r behind first.1 in
-      ap (λ (s : Read). s.encoding) (found_quality bs (concat (before_plus ls)) (from_plus ls) r
-      behind second.1).is
+  front_encoding ((b ∷ bs) ∷ ls) r behind is = grind (arith, passed, found_quality)

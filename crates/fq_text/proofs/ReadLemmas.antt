@@ -2,6 +2,7 @@
 use Rattle.std.proofs.Common.{◌≡◌, ℕ, ◌+◌, ◌-◌, ◌≤◌, List, ◌++◌, length, take, drop, arith, ap, sym, ◌∙◌, append_assoc}
 use Rattle.std.proofs.Math.Seq.{take-add}
 use Rattle.std.proofs.lemmas.List.{take-take, take_at, drop_at, take-append-le, drop-append-le, drop-take, drop-drop, length-take}
+use Rattle.std.proofs.lemmas.Grind.{common_steps}
 use Rattle.fq_text.specs.Devices.{FeedState}
 use Rattle.fq_text.specs.Lines.{without_cr}
 use Rattle.fq_text.specs.Reading.{Moved, MovesOr}
@@ -13,15 +14,7 @@ pub written_behind : (grown wrote past other before : List ℕ) (filled n room :
     take (filled + n) (take room (take filled grown ++ (wrote ++ past) ++ other))
     ≡ before ++ take n wrote
 written_behind grown wrote past other before filled n room is same fits within =
-    let regrouped : take filled grown ++ (wrote ++ past) ++ other
-    ≡ before ++ (wrote ++ (past ++ other)) =
-    ap (λ xs. xs ++ (wrote ++ past) ++ other) is ∙ append_assoc before (wrote ++ past) other
-    ∙ ap (λ xs. before ++ xs) (append_assoc wrote past other) in
-    take-take (filled + n) room _ within ∙ ap (take (filled + n)) regrouped ∙ take-add filled n _
-    ∙ ap (λ xs. xs ++ take n (drop filled (before ++ (wrote ++ (past ++ other)))))
-    (take_at before _ filled same)
-    ∙ ap (λ xs. before ++ take n xs) (drop_at before _ filled same)
-    ∙ ap (λ xs. before ++ xs) (take-append-le n wrote _ fits)
+    grind (arith, common_steps, append_assoc, take-take, take-add, take_at, drop_at, take-append-le)
 
 -- some of the bytes in hand are used
 drop_hand : (bytes : List ℕ) (start filled used : ℕ) → used ≤ filled - start →
@@ -41,30 +34,14 @@ pub line_of_hand : (bytes seen hand : List ℕ) (start filled len used r : ℕ) 
     r ≤ length (take (start + len - start) (drop start seen)) →
     take (start + r - start) (drop start bytes) ≡ without_cr (take len hand)
 line_of_hand bytes seen hand start filled len used r same is le within without short =
-    let a : start + len - start ≡ len = omega arith in
-    let b : start + r - start ≡ r = omega arith in
-    let size = ap length is in
-    let room : len ≤ filled - start =
-    omega (arith, length-take (filled - start) (drop start bytes)) in
-    let shorter : r ≤ len = omega (arith, length-take (start + len - start) (drop start seen)) in
-    let piece : take (start + len - start) (drop start seen) ≡ take len (drop start bytes) =
-    ap (λ m. take m (drop start seen)) a ∙ ap (λ xs. take len (drop start xs)) same in
-    let front : take len (drop start bytes) ≡ take len hand =
-    sym (take-take len (filled - start) (drop start bytes) room) ∙ ap (take len) is in
-    ap (λ m. take m (drop start bytes)) b ∙ sym (take-take r len (drop start bytes) shorter)
-    ∙ ap (take r) (sym piece) ∙ sym without ∙ ap without_cr (piece ∙ front)
+    grind (arith, common_steps)
 
 -- the bytes in hand that are left after the first `used` of them were used
 pub hand_used : (bytes hand : List ℕ) (start filled used : ℕ) →
     take (filled - start) (drop start bytes) ≡ hand → used ≤ length hand →
     take (filled - (start + used)) (drop (start + used) bytes) ≡ drop used hand
 hand_used bytes hand start filled used is within =
-    let size = ap length is in
-    drop_hand bytes start filled used (omega (
-      arith,
-      length-take (filled - start)
-          (drop start bytes),
-    )) ∙ ap (drop used) is
+    grind (arith, common_steps, drop_hand, length-take)
 
 -- more bytes come after those in hand
 pub hand_grows : (old new gave : List ℕ) (start filled n : ℕ) →
@@ -85,15 +62,8 @@ module _ {F : Type 0} (state : F → FeedState) where
       start ≤ filled → filled ≤ length before → take (filled - start) (drop start before) ≡ hand →
       Moved state old new (take filled before) (take (filled + n) after) chunk n →
       Moved state old new hand (take (filled + n - start) (drop start after)) chunk n
-  hand_moved old new before after hand start filled chunk n le within is p = record {
-    gave = p.gave;
-    len = p.len;
-    within = p.within;
-    bytes = hand_grows before after p.gave start filled n p.bytes le within
-        ∙ ap (λ xs. xs ++ p.gave) is;
-    fed = p.fed;
-    none = p.none;
-  }
+  hand_moved old new before after hand start filled chunk n le within is p =
+      grind (arith, common_steps, hand_grows)
 
   -- and if nothing was read, the bytes in hand stay
   pub hand_stays : (old new : F) (before after hand : List ℕ) (start filled : ℕ) (why : ReadError) →
@@ -101,11 +71,9 @@ module _ {F : Type 0} (state : F → FeedState) where
       MovesOr state old new (take filled before) (take filled after) why →
       MovesOr state old new hand (take (filled - start) (drop start after)) why
   hand_stays old new before after hand start filled why le is p =
-      let b : start + (filled - start) ≡ filled = omega arith in record {
-        bytes = sym (ap (λ m. drop start (take m after)) (sym b)
-            ∙ drop-take start (filled - start) after) ∙ ap (drop start) p.bytes
-            ∙ (ap (λ m. drop start (take m before)) (sym b)
-            ∙ drop-take start (filled - start) before) ∙ is;
-        fed = p.fed;
-        cause = p.cause;
-      }
+      grind (
+        arith,
+        common_steps,
+        drop-take start (filled - start) after,
+        drop-take start (filled - start) before,
+      )

@@ -1,53 +1,27 @@
 -- Bytes that have a score, and the names of encodings.
-use Rattle.std.proofs.Common.{◌≡◌, ℕ, ◌+◌, ◌-◌, ◌<◌, ◌≤◌, nat_le, nat_lt, Bool, true, eqb, Option, Some, None, unwrap_or, cond, List, [], ◌∷◌, length, map, get_or, refl, ap, sym, ◌∙◌, arith, ⊎_elim}
+use Rattle.std.proofs.Common.{◌≡◌, ℕ, ◌+◌, ◌-◌, ◌<◌, ◌≤◌, Bool, true, eqb, Option, Some, unwrap_or, cond, List, [], ◌∷◌, length, map, get_or, refl, ap, sym, ◌∙◌, arith}
 use Rattle.std.proofs.lemmas.Slice.Eq.{bytes_eq-Decides}
 use Rattle.std.specs.Str.{bytes_eq}
 use Rattle.std.specs.List.{list_all}
-use Rattle.std.proofs.lemmas.List.{get_or_past}
-use Rattle.std.proofs.lemmas.List.Folds.{list_all_at}
-use Rattle.std.proofs.lemmas.Bool.{cond-true, cond-false, cases_Bool, cases_lt, and_parts, and_from, leb-true, le-leb, eqb-true, false≢true, agree_below, agree_below_at}
+use Rattle.std.proofs.lemmas.Bool.{cases_Bool, and_parts, and_from, leb-true, eqb-true, agree_below, agree_below_at}
+use Rattle.std.proofs.lemmas.Grind.{common_steps}
 use Rattle.fq_text.specs.declared.encoding.Encoding.{Encoding}
-use Rattle.fq_text.specs.declared.encoding.Encoding.TheVariants.{Sanger, Illumina13, Solexa}
+use Rattle.fq_text.specs.declared.encoding.Encoding.TheVariants.{Sanger, Solexa}
 use Rattle.fq_text.specs.declared.encoding.TheConstants.{PHRED_OF_SOLEXA}
-use Rattle.fq_text.specs.Scores.{lowest, is_scored, low_solexa, phred_of_solexa, value_of, recoded, encoding_name, encoding_of, NamesAreInverse}
+use Rattle.fq_text.specs.Scores.{lowest, is_scored, phred_of_solexa, value_of, recoded, encoding_name, encoding_of, NamesAreInverse}
 
 -- what holds of each member holds of the one at an index
 pub at_place : (p : ℕ → Bool) (xs : List ℕ) (i : ℕ) → list_all p xs ≡ true → i < length xs →
     p (get_or xs i 0) ≡ true
-at_place p xs i all within = ⊎_elim
-    (λ holds. holds)
-    (λ fails. absurd (false≢true (sym (list_all_at p xs i 0 within fails) ∙ all)))
-    (cases_Bool (p (get_or xs i 0)))
-
--- no score is above 93, the highest of Sanger's encoding
-low_small : (k : ℕ) → get_or low_solexa k 0 ≤ 93
-low_small k = ⊎_elim
-    (λ within. leb-true (get_or low_solexa k 0) 93
-    (at_place (λ s. nat_le s 93) low_solexa k refl within))
-    (λ beyond. let none = get_or_past low_solexa k 0 beyond in omega arith)
-    (cases_lt k (length low_solexa))
+at_place p xs i all within = grind (arith, common_steps)
 
 -- no encoding has a score below byte 33
 pub low_base : (e : Encoding) → 33 ≤ lowest e
-low_base Sanger = omega arith
-low_base Illumina13 = omega arith
-low_base Solexa = omega arith
+low_base e = grind (arith, common_steps)
 
 -- a score is at most 93 in each encoding
 pub value_small : (e : Encoding) (b : ℕ) → is_scored e b ≡ true → value_of e b ≤ 93
-value_small Sanger b is = let most : b ≤ 126 =
-    leb-true b 126 (and_parts (nat_le (lowest Sanger) b) (nat_le b 126) is).1 in omega arith
-value_small Illumina13 b is = let most : b ≤ 126 =
-    leb-true b 126 (and_parts (nat_le (lowest Illumina13) b) (nat_le b 126) is).1 in omega arith
-value_small Solexa b is =
-    let most : b ≤ 126 =
-    leb-true b 126 (and_parts (nat_le (lowest Solexa) b) (nat_le b 126) is).1 in
-    let low = low_small (b - 59) in
-    ⊎_elim
-    (λ below. let e : phred_of_solexa b ≡ get_or low_solexa (b - 59) 0 =
-    cond-true (nat_lt b 74) _ _ below in omega arith)
-    (λ from. let e : phred_of_solexa b ≡ b - 64 = cond-false (nat_lt b 74) _ _ from in omega arith)
-    (cases_Bool (nat_lt b 74))
+value_small e b is = grind (arith, common_steps)
 
 -- the table in the code has this score for byte k + 59
 abbrev in_table : ℕ → Bool
@@ -71,9 +45,7 @@ table_at k b is place =
 -- a score at offset 33 is one of Sanger's encoding
 pub recoded_scored : (e : Encoding) (b : ℕ) → is_scored e b ≡ true →
     is_scored Sanger (recoded e b) ≡ true
-recoded_scored e b is =
-    let small = value_small e b is in
-    and_from _ _ (le-leb 33 (recoded e b) (omega arith)) (le-leb (recoded e b) 126 (omega arith))
+recoded_scored e b is = grind (arith, common_steps)
 
 -- bytes that all have a score all have one in Sanger's encoding after they are recoded
 pub all_recoded_scored : (e : Encoding) (bs : List ℕ) → list_all (is_scored e) bs ≡ true →
@@ -86,27 +58,17 @@ all_recoded_scored e (b ∷ bs) all = let parts = and_parts _ _ all in
 
 -- an encoding is found by its name
 pub name_found : (e : Encoding) → encoding_of (encoding_name e) ≡ Some e
-name_found Sanger = refl
-name_found Illumina13 = refl
-name_found Solexa = refl
+name_found e = grind (arith, common_steps)
 
 -- a text that is taken for k is the name of k, and another is judged by the others
 name_or : (name : List ℕ) (k e : Encoding) (others : Option Encoding) →
     (others ≡ Some e → encoding_name e ≡ name) →
     cond (bytes_eq name (encoding_name k)) (Some k) others ≡ Some e → encoding_name e ≡ name
-name_or name k e others rest is = ⊎_elim
-    (λ same. let found : Some k ≡ Some e =
-    sym (cond-true (bytes_eq name (encoding_name k)) (Some k) others same) ∙ is in
-    ap encoding_name (sym (ap (λ o. unwrap_or o k) found))
-    ∙ sym ((bytes_eq-Decides name (encoding_name k)).0 same))
-    (λ other. rest
-    (sym (cond-false (bytes_eq name (encoding_name k)) (Some k) others other) ∙ is))
-    (cases_Bool (bytes_eq name (encoding_name k)))
+name_or name k e others rest is =
+    grind (arith, common_steps, unwrap_or, bytes_eq-Decides, cases_Bool)
 
 name_taken : (name : List ℕ) (e : Encoding) → encoding_of name ≡ Some e → encoding_name e ≡ name
-name_taken name e =
-    name_or name Sanger e _ (name_or name Illumina13 e _ (name_or name Solexa e None
-    (λ is. absurd (let h : None ≡ Some e = is in cc))))
+name_taken name e = grind (arith, common_steps, name_or)
 
 -- the name of an encoding and the encoding of a name undo each other
 pub names_are_inverse : NamesAreInverse

@@ -1,10 +1,11 @@
 -- Bytes that are compared in a vector. The result of a comparison is 255 for each byte for which it
 -- holds, and 0 for the others.
-use Rattle.std.proofs.Common.{◌≡◌, ◌≤◌, ◌<◌, ◌+◌, ◌*◌, ◌%◌, ◌^◌, ℕ, zero, Bool, true, false, not, ◌&&◌, cond, ltb, leb, eqb, List, [], ◌∷◌, length, map, refl, sym, ap, ap₂, ◌∙◌, arith, ⊎_elim}
+use Rattle.std.proofs.Common.{◌≡◌, ◌≤◌, ◌+◌, ◌*◌, ◌%◌, ◌^◌, ℕ, Bool, not, ◌&&◌, cond, ltb, leb, eqb, List, [], ◌∷◌, length, map, refl, ap, ap₂, ◌∙◌, arith}
 use Rattle.std.specs.List.{list_all}
 use Rattle.std.proofs.lemmas.List.{length-map}
-use Rattle.std.proofs.lemmas.Bool.{cases_lt, lt-ltb, le-ltb, le-leb, lt-leb, eq-eqb, ne_eqb}
+use Rattle.std.proofs.lemmas.Bool.{ne_eqb}
 use Rattle.std.proofs.lemmas.Simd.{mask_l-mod}
+use Rattle.std.proofs.lemmas.Grind.{common_steps}
 use lib.Lanes.{mask_l, top}
 
 -- 255 if a comparison holds for a byte, otherwise 0
@@ -12,8 +13,7 @@ abbrev pub flag : Bool → ℕ
 flag b = cond b 255 0
 
 flag_top : (b : Bool) → top 7 (flag b) ≡ b
-flag_top true = refl
-flag_top false = refl
+flag_top b = grind (arith, common_steps)
 
 tops : (p : ℕ → Bool) (v : List ℕ) → map (top 7) (map (λ x. flag (p x)) v) ≡ map p v
 tops p [] = refl
@@ -23,28 +23,21 @@ tops p (x ∷ xs) = ap₂ (λ y ys. y ∷ ys) (flag_top (p x)) (tops p xs)
 pub mask_of : (p : ℕ → Bool) (v : List ℕ) {z : List ℕ} → length v ≤ 64 →
     z ≡ map (λ x. flag (p x)) v → mask_l (map (top 7) z) % 2 ^ 64 ≡ mask_l (map p v)
 mask_of p v short same =
-    ap (λ z. mask_l (map (top 7) z) % 2 ^ 64) same
-    ∙ ap (λ ms. mask_l ms % 2 ^ 64) (tops p v)
-    ∙ mask_l-mod (map p v) 64 (omega (arith, length-map v p))
+    grind (arith, common_steps, mask_l, top 7, tops p v, mask_l-mod (map p v) 64, length-map v p)
 
 -- Whether no byte passes, by the mask.
 twice : (m : ℕ) → eqb (2 * m) 0 ≡ eqb m 0
-twice m = ⊎_elim
-    (λ (some : 0 < m). ne_eqb (2 * m) 0 (λ e. omega arith) ∙ sym (ne_eqb m 0 (λ e. omega arith)))
-    (λ (none : m ≤ 0). eq-eqb (2 * m) 0 (omega arith) ∙ sym (eq-eqb m 0 (omega arith)))
-    (cases_lt 0 m)
+twice m = grind (arith, common_steps)
 
 one_set : (b : Bool) (m : ℕ) → eqb (cond b 1 0 + 2 * m) 0 ≡ not b && eqb m 0
-one_set true m = ne_eqb (1 + 2 * m) 0 (λ e. omega arith)
-one_set false m = let zero : 0 + 2 * m ≡ 2 * m = omega arith in ap (λ n. eqb n 0) zero ∙ twice m
+one_set b m = grind (arith, common_steps, ne_eqb, eqb, twice)
 
 none_set : (p : ℕ → Bool) (v : List ℕ) → eqb (mask_l (map p v)) 0 ≡ list_all (λ x. not (p x)) v
 none_set p [] = refl
 none_set p (x ∷ xs) = one_set (p x) (mask_l (map p xs)) ∙ ap (λ b. not (p x) && b) (none_set p xs)
 
 not_not : (b : Bool) → not (not b) ≡ b
-not_not true = refl
-not_not false = refl
+not_not b = grind (arith, common_steps)
 
 none_by_mask : (p : ℕ → Bool) (v : List ℕ) {z : List ℕ} → length v ≤ 64 →
     z ≡ map (λ x. flag (p x)) v → not (not (eqb (mask_l (map (top 7) z) % 2 ^ 64) 0)) ≡ list_all
@@ -53,10 +46,7 @@ none_by_mask p v short is = not_not (eqb (mask_l (map (top 7) _) % 2 ^ 64) 0)
     ∙ ap (λ m. eqb m 0) (mask_of p v short is) ∙ none_set p v
 
 not_less : (x y : ℕ) → not (ltb x y) ≡ leb y x
-not_less x y = ⊎_elim
-    (λ (below : x < y). ap not (lt-ltb x y below) ∙ sym (lt-leb y x below))
-    (λ (from : y ≤ x). ap not (le-ltb x y from) ∙ sym (le-leb y x from))
-    (cases_lt x y)
+not_less x y = grind (arith, common_steps)
 
 same_of_each : (p q : ℕ → Bool) → ((x : ℕ) → p x ≡ q x) → (v : List ℕ) → list_all p v ≡ list_all q v
 same_of_each p q same [] = refl

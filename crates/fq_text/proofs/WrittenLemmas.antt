@@ -1,16 +1,17 @@
 -- What was written reads back.
-use Rattle.std.proofs.Common.{◌≡◌, ℕ, ◌+◌, ◌<◌, ◌≤◌, Bool, true, false, not, eqb, Option, Some, None, suc, List, [], ◌∷◌, ◌++◌, length, map, refl, ap, sym, ◌∙◌, arith, append_assoc, ⊎_elim}
+use Rattle.std.proofs.Common.{◌≡◌, ℕ, ◌+◌, ◌<◌, ◌≤◌, Bool, true, false, not, eqb, Option, Some, None, suc, List, [], ◌∷◌, ◌++◌, length, refl, ap, sym, ◌∙◌, arith, append_assoc, ⊎_elim}
 use Rattle.std.specs.List.{list_all}
 use Rattle.std.proofs.lemmas.Bool.{cond-false, and_parts, and_from, not-true, not_from_false, not_from_true, le-ltb, le-leb, leb-true, ne_eqb}
 use Rattle.fq_text.specs.declared.encoding.Encoding.{Encoding}
 use Rattle.std.proofs.lemmas.List.{length-map}
-use Rattle.fq_text.specs.Scores.{lowest, is_scored, recoded}
+use Rattle.std.proofs.lemmas.Grind.{common_steps}
+use Rattle.fq_text.specs.Scores.{is_scored}
 use Rattle.fq_text.specs.Lines.{pieces, before_first_piece, without_cr, lines}
 use Rattle.fq_text.specs.Grammar.{limit, is_base, IsLawful, Read, Found, front, begins_with, title_fault, sequence_fault, plus_fault, quality_fault}
 use Rattle.fq_text.specs.Phases.{in_quality}
-use Rattle.fq_text.specs.Written.{line, written, as_written, CanRecode, ReadsBack}
-use Rattle.fq_text.specs.Records.{with_first, from_front, records_within, records}
-use Rattle.fq_text.proofs.ScoreLemmas.{low_base, all_recoded_scored}
+use Rattle.fq_text.specs.Written.{written, as_written, CanRecode, ReadsBack}
+use Rattle.fq_text.specs.Records.{with_first, records_within, records}
+use Rattle.fq_text.proofs.ScoreLemmas.{all_recoded_scored}
 use Rattle.fq_text.proofs.RecordsLemmas.{room_enough}
 use Rattle.fq_text.proofs.GrammarLemmas.{title_goes, sequence_goes, sequence_ends, plus_goes, quality_goes, quality_ends}
 
@@ -39,22 +40,16 @@ clean_bases (b ∷ bs) all = let parts = and_parts _ _ all in let high = base_hi
 -- bases do not end in CR
 pub plain_bases : (l : List ℕ) → list_all is_base l ≡ true → without_cr l ≡ l
 plain_bases [] all = refl
-plain_bases (b ∷ []) all = let high = base_high b (and_parts _ _ all).0 in
-    cond-false (eqb b 13) _ _ (ne_eqb b 13 (λ e. absurd (omega arith)))
+plain_bases (b ∷ []) all = grind (arith, common_steps)
 plain_bases (b ∷ c ∷ bs) all = ap (λ xs. b ∷ xs) (plain_bases (c ∷ bs) (and_parts _ _ all).1)
 
 -- after a byte that is not CR, a line that does not end in CR still does not
 pub plain_behind : (b : ℕ) (l : List ℕ) → eqb b 13 ≡ false → without_cr l ≡ l →
     without_cr (b ∷ l) ≡ b ∷ l
-plain_behind b [] other plain = cond-false (eqb b 13) _ _ other
-plain_behind b (c ∷ cs) other plain = ap (λ xs. b ∷ xs) plain
+plain_behind b l other plain = grind (arith, common_steps, eqb)
 
 scored_base : (e : Encoding) (b : ℕ) → is_scored e b ≡ true → is_base b ≡ true
-scored_base e b is =
-    let parts = and_parts _ _ is in
-    let low = low_base e in
-    let high = leb-true (lowest e) b parts.0 in
-    and_from _ _ (le-leb 33 b (omega arith)) parts.1
+scored_base e b is = grind (arith, common_steps)
 
 scored_bases : (e : Encoding) (l : List ℕ) → list_all (is_scored e) l ≡ true →
     list_all is_base l ≡ true
@@ -68,8 +63,7 @@ Ends end l = (ys : List ℕ) → lines ((l ++ end) ++ ys) ≡ l ∷ lines ys
 
 -- bytes without an LF that do not end in CR are one line if LF follows
 pub ends_in_lf : (l : List ℕ) → list_all not_lf l ≡ true → without_cr l ≡ l → Ends (10 ∷ []) l
-ends_in_lf l clean plain ys = ap lines (append_assoc l (10 ∷ []) ys)
-    ∙ ap (map without_cr) (pieces_line l ys clean) ∙ ap (λ m. m ∷ lines ys) plain
+ends_in_lf l clean plain ys = grind (arith, common_steps, append_assoc, pieces_line)
 
 -- a record as four lines with this line end, these bytes after the `+`, and a text after them
 abbrev pub four : List ℕ → List ℕ → Read → List ℕ → List ℕ
@@ -90,36 +84,20 @@ pub record AreItsLines (end again : List ℕ) (r : Read) : Type 0 where
 -- the lines of such a text
 pub four_lines : (end again : List ℕ) (r : Read) (text : List ℕ) → AreItsLines end again r →
     lines (four end again r text) ≡ (64 ∷ r.title) ∷ r.seq ∷ (43 ∷ again) ∷ r.qual ∷ lines text
-four_lines end again r text p =
-    let qual = ap (λ ls. (43 ∷ again) ∷ ls) (p.qual text) in
-    let plus = ap (λ ls. r.seq ∷ ls) (p.plus ((r.qual ++ end) ++ text) ∙ qual) in
-    let seq =
-    ap (λ ls. (64 ∷ r.title) ∷ ls) (p.seq (((43 ∷ again) ++ end) ++ ((r.qual ++ end) ++ text))
-    ∙ plus) in
-    p.title ((r.seq ++ end) ++ (((43 ∷ again) ++ end) ++ ((r.qual ++ end) ++ text))) ∙ seq
+four_lines end again r text p = grind (arith, common_steps)
 
 -- a record is written as such lines
 written_four : (r : Read) (text : List ℕ) → written r.title r.seq r.qual ++ text ≡ four (10 ∷ []) []
     r text
-written_four r text =
-    append_assoc (line (64 ∷ r.title) ++ line r.seq ++ line (43 ∷ [])) (line r.qual) text
-    ∙ append_assoc (line (64 ∷ r.title) ++ line r.seq) (line (43 ∷ [])) (line r.qual ++ text)
-    ∙ append_assoc (line (64 ∷ r.title)) (line r.seq) (line (43 ∷ []) ++ (line r.qual ++ text))
+written_four r text = grind (arith, common_steps)
 
 -- each quality byte of a valid record is from 33 to 126, as a base is
 pub quals_are_bases : (r : Read) → IsLawful r → list_all is_base r.qual ≡ true
 quals_are_bases r lawful = scored_bases r.encoding r.qual lawful.scores
 
 its_lines : (r : Read) → IsLawful r → without_cr r.title ≡ r.title → AreItsLines (10 ∷ []) [] r
-its_lines r lawful plain = record {
-  lawful = lawful;
-  title = ends_in_lf (64 ∷ r.title) lawful.one_line (plain_behind 64 r.title refl plain);
-  seq = ends_in_lf r.seq (clean_bases r.seq lawful.bases) (plain_bases r.seq lawful.bases);
-  plus = ends_in_lf (43 ∷ []) refl refl;
-  qual = let quals = quals_are_bases r lawful in
-      ends_in_lf r.qual (clean_bases r.qual quals) (plain_bases r.qual quals);
-  same = refl;
-}
+its_lines r lawful plain =
+    grind (arith, common_steps, ends_in_lf, plain_behind, clean_bases, plain_bases, quals_are_bases)
 
 -- no line has a fault
 sound_title : (title : List ℕ) → length title < limit → title_fault (64 ∷ title) ≡ None
@@ -127,18 +105,12 @@ sound_title title fits = cond-false _ _ _ (le-ltb limit (length (64 ∷ title)) 
 
 sound_seq : (seq : List ℕ) → length seq ≤ limit → list_all is_base seq ≡ true →
     begins_with 64 seq ≡ false → sequence_fault 0 seq ≡ None
-sound_seq seq fits bases plain =
-    cond-false _ _ _ (le-ltb limit (length seq) fits) ∙ cond-false _ _ _ plain
-    ∙ cond-false _ _ _ (le-ltb limit (0 + length seq) (omega arith))
-    ∙ cond-false _ _ _ (not_from_true _ bases)
+sound_seq seq fits bases plain = grind (arith, common_steps)
 
 -- quality bytes with scores, as many as bases, have no fault
 pub sound_qual : (e : Encoding) (bases : ℕ) (qual : List ℕ) → bases ≤ limit → length qual ≡ bases →
     list_all (is_scored e) qual ≡ true → quality_fault e bases 0 qual ≡ None
-sound_qual e bases qual fits same scores =
-    cond-false _ _ _ (le-ltb limit (length qual) (omega arith))
-    ∙ cond-false _ _ _ (le-ltb bases (0 + length qual) (omega arith))
-    ∙ cond-false _ _ _ (not_from_true _ scores)
+sound_qual e bases qual fits same scores = grind (arith, common_steps)
 
 -- the way to the quality
 pub to_quality : (end again : List ℕ) (r : Read) (ls : List (List ℕ)) → AreItsLines end again r →
@@ -154,8 +126,7 @@ to_quality end again r ls p =
     ∙ plus_goes r.encoding r.title r.seq (43 ∷ again) ls p.same
 
 nil_qual : (qual : List ℕ) → length qual ≡ 0 → qual ≡ []
-nil_qual [] none = refl
-nil_qual (b ∷ bs) none = absurd (omega arith)
+nil_qual qual none = grind (arith, common_steps)
 
 -- the lines begin with the record, and after it comes what the other lines begin with
 record StandsBefore (encoding : Encoding) (read : Read) (ls others : List (List ℕ)) : Type 0 where
@@ -203,10 +174,7 @@ records_of : (n : ℕ) (e : Encoding) (r : Read) (ls others : List (List ℕ)) �
     StandsBefore e r ls others →
     records_within (suc (suc n)) e ls ≡ with_first r (records_within (suc (length others)) e others)
 records_of n e r ls others fewer stands =
-    ap (from_front (records_within (suc n) e)) stands.found
-    ∙ ap (λ f. with_first r (from_front (records_within n e) f)) stands.then
-    ∙ ap (with_first r) (room_enough (suc n) (suc (length others)) e others (omega arith)
-    (omega arith))
+    grind (arith, common_steps, room_enough (suc n) (suc (length others)) e others)
 
 -- a valid record reads back
 reads_lawful : (r : Read) (text : List ℕ) → IsLawful r → without_cr r.title ≡ r.title →
@@ -228,17 +196,7 @@ reads_lawful r text lawful plain =
 -- recoding keeps a record valid
 lawful_as_written : (recode : Option Encoding) (r : Read) → IsLawful r → CanRecode recode r.qual →
     IsLawful (as_written recode r)
-lawful_as_written None r lawful can = lawful
-lawful_as_written (Some e) r lawful can = record {
-  one_line = lawful.one_line;
-  title_fits = lawful.title_fits;
-  seq_fits = lawful.seq_fits;
-  bases = lawful.bases;
-  no_title = lawful.no_title;
-  no_plus = lawful.no_plus;
-  same_len = length-map r.qual (recoded e) ∙ lawful.same_len;
-  scores = all_recoded_scored e r.qual can;
-}
+lawful_as_written recode r lawful can = grind (arith, common_steps, length-map, all_recoded_scored)
 
 -- a valid record whose title does not end in CR reads back, recoded or not, before any text
 pub reads_back : ReadsBack

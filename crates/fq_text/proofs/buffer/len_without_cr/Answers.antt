@@ -1,5 +1,6 @@
 use Rattle.std.proofs.Common.{◌≡◌, ℕ, ◌-◌, ◌<◌, List, [], ◌∷◌, length, take, get_or, arith, refl, sym, ◌∙◌}
 use Rattle.std.proofs.lemmas.List.{take_all}
+use Rattle.std.proofs.lemmas.Grind.{common_steps}
 use Rattle.fq_text.specs.Lines.{without_cr}
 use Rattle.fq_text.proofs.LineLemmas.{without_cr_yes, without_cr_no}
 use Rattle.fq_text.proofs.buffer.len_without_cr.Goals as goal
@@ -13,13 +14,9 @@ no_cr (x ∷ xs) none = without_cr_no (x ∷ xs) (length (x ∷ xs) - 1) (omega 
 
 -- a piece that ends in CR loses it
 pub returns-then-piece-len-eq13-clause-line : goal.returns-then-piece-len-eq13-clause-line
-returns-then-piece-len-eq13-clause-line c = without_cr_yes _ _ (omega arith)
-    c.if-piece-len-eq13.true
+returns-then-piece-len-eq13-clause-line c = grind (arith, common_steps, without_cr_yes)
 
 -- any other piece keeps all its bytes
 pub returns-else-len-gt0-clause-line : goal.returns-else-len-gt0-clause-line
-returns-else-len-gt0-clause-line c = no_cr c.args.piece.now
-    (λ some is. elim c.else-len-gt0.branch as (λ _. ⊥) [
-      | else-len-gt0-via-then-len-gt0+else-piece-len-eq13 w ↦ w.if-piece-len-eq13.false is
-      | else-len-gt0-via-else-len-gt0 w ↦ absurd (omega arith)
-    ])
+returns-else-len-gt0-clause-line c =
+    grind (arith, common_steps, no_cr, else-len-gt0-via-else-len-gt0)

@@ -1,5 +1,6 @@
-use Rattle.std.proofs.Common.{◌≡◌, ℕ, ◌+◌, ◌≤◌, ◌++◌, List, length, take, arith, rules, ap, append-nil, inl, ◌∙◌, Ok}
+use Rattle.std.proofs.Common.{◌≡◌, ℕ, ◌≤◌, ◌++◌, List, length, take, arith, rules, ap, inl, ◌∙◌, Ok}
 use Rattle.std.proofs.lemmas.List.{length-take, length-drop, length-take-le}
+use Rattle.std.proofs.lemmas.Grind.{common_steps}
 use Rattle.fq_text.proofs.ReadLemmas.{written_behind}
 use Rattle.fq_text.proofs.ResultLemmas.{cases_mapped}
 use Rattle.fq_text.proofs.buffer.read_more.Goals as goal
@@ -8,11 +9,7 @@ use Rattle.fq_text.proofs.buffer.read_more.Goals as goal
 unwritten : (grown wrote past other before : List ℕ) (filled room : ℕ) →
     take filled grown ≡ before → length before ≡ filled → filled ≤ room →
     take filled (take room (take filled grown ++ (wrote ++ past) ++ other)) ≡ before
-unwritten grown wrote past other before filled room is same within =
-    let none : filled ≡ filled + 0 = omega arith in
-    ap (λ m. take m (take room (take filled grown ++ (wrote ++ past) ++ other))) none
-    ∙ written_behind grown wrote past other before filled 0 room is same (omega arith) (omega arith)
-    ∙ append-nil before
+unwritten grown wrote past other before filled room is same within = grind (arith, common_steps)
 
 -- the bytes read come after the first `filled`, which stay, also if the call failed
 pub returns-clause-moved : goal.returns-clause-moved

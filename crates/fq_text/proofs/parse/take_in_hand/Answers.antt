@@ -3,8 +3,9 @@ use Rattle.std.specs.List.{list_all}
 use Rattle.std.proofs.lemmas.List.Folds.{list_all-append}
 use Rattle.std.proofs.Math.Seq.{take-add}
 use Rattle.std.proofs.lemmas.List.{drop-drop, append-nil, length-take, length-drop}
-use Rattle.std.proofs.lemmas.Bool.{cond-false, le-ltb, or_right}
+use Rattle.std.proofs.lemmas.Bool.{le-ltb, or_right}
 use Rattle.std.proofs.lemmas.Slice.Eq.{bytes_eq-Decides}
+use Rattle.std.proofs.lemmas.Grind.{common_steps}
 use Rattle.fq_text.specs.Grammar.{Read, Found, front, limit, plus_fault, IsLawful}
 use Rattle.fq_text.specs.Reading.{Lined}
 use Rattle.fq_text.specs.Phases.{Goes}
@@ -55,9 +56,7 @@ one_at (x ∷ xs) (suc i) b lt is = one_at xs i b (omega arith) is
 -- c bytes from index i on are a bytes, and then b bytes
 parted : (xs : List ℕ) (i j a b c : ℕ) → a + b ≡ c → i + a ≡ j →
     take c (drop i xs) ≡ take a (drop i xs) ++ take b (drop j xs)
-parted xs i j a b c sum place =
-    ap (λ m. take m (drop i xs)) (sym sum) ∙ take-add a b (drop i xs)
-    ∙ ap (λ ys. take a (drop i xs) ++ take b ys) (drop-drop a i xs ∙ ap (λ m. drop m xs) place)
+parted xs i j a b c sum place = grind (arith, common_steps, take-add, drop-drop)
 
 -- a line end of one byte, or of two
 abbrev IsEnd : ℕ → Type 0
@@ -69,15 +68,8 @@ bytes_of (inr two) = 13 ∷ 10 ∷ []
 
 end_at : (hand : List ℕ) (i e : ℕ) (is : IsEnd e) → i + e ≤ length hand → EndsAt hand i e →
     take e (drop i hand) ≡ bytes_of is
-end_at hand i e (inl one) within p =
-    ap (λ m. take m (drop i hand)) one ∙ one_at hand i 10 (omega arith)
-    (ap (λ m. get_or hand m 0) (omega arith) ∙ p.lf)
-end_at hand i e (inr two) within p =
-    let cr : get_or hand i 0 ≡ 13 = ⊎_elim (λ one. absurd (omega arith)) (λ at. at) p.cr in
-    parted hand i (i + 1) 1 1 e (omega arith) refl
-    ∙ ap (λ ys. ys ++ take 1 (drop (i + 1) hand)) (one_at hand i 13 (omega arith) cr)
-    ∙ ap (λ ys. 13 ∷ ys) (one_at hand (i + 1) 10 (omega arith) (ap (λ m. get_or hand m 0)
-    (omega arith) ∙ p.lf))
+end_at hand i e (inl one) within p = grind (arith, common_steps)
+end_at hand i e (inr two) within p = grind (arith, common_steps)
 
 -- a line of k bytes at index i, with its line end
 line_at : (hand : List ℕ) (i k j e c : ℕ) (is : IsEnd e) → i + k ≡ j → k + e ≡ c →
@@ -175,17 +167,12 @@ plus_is_sound : (title again : List ℕ) → length title < limit → (again ≡
     plus_fault title (43 ∷ again) ≡ None
 plus_is_sound title again fits (inl none) = ap (λ xs. plus_fault title (43 ∷ xs)) none
 plus_is_sound title again fits (inr same) =
-    let short = cond-false _ _ _ (le-ltb limit (length (43 ∷ title)) (omega arith)) in
-    let equal = (bytes_eq-Decides (43 ∷ title) (43 ∷ title)).1 refl in
-    ap (λ xs. plus_fault title (43 ∷ xs)) same ∙ short
-    ∙ cond-false _ _ _ (ap not (or_right (bytes_eq (43 ∷ title) (43 ∷ [])) _ equal))
+    grind (arith, common_steps, le-ltb, bytes_eq-Decides, not, or_right, bytes_eq)
 
 ends_plus : (end title again : List ℕ) → (again ≡ []) ⊎ (again ≡ title) → Ends end (43 ∷ []) →
     Ends end (43 ∷ title) → Ends end (43 ∷ again)
-ends_plus end title again (inl none) bare titled =
-    subst (λ (xs : List ℕ). Ends end (43 ∷ xs)) (sym none) bare
-ends_plus end title again (inr same) bare titled =
-    subst (λ (xs : List ℕ). Ends end (43 ∷ xs)) (sym same) titled
+ends_plus end title again (inl none) bare titled = grind (arith, common_steps)
+ends_plus end title again (inr same) bare titled = grind (arith, common_steps)
 
 -- the lines of a valid record give the record
 lawful_lines : {e : ℕ} (is : IsEnd e) (r : Read) (again : List ℕ) → IsLawful r →
@@ -281,11 +268,4 @@ returns-clause-found g c =
 
 -- the bytes that were taken are enough for the four lines of the shape
 pub returns-clause-whole : goal.returns-clause-whole
-returns-clause-whole g c =
-    let e = c.args.encoding in
-    let s = c.in_ok-shape.shape in
-    let first = subst (λ (h : List ℕ). BeginsWithRecord e h s) c.hand-hand.ensures
-    c.in_ok-shape.ensures.found in
-    let took = rw c.lines_len-len.ensures at c.take_line.ensures in
-    taken_whole e c.args.lines.now.in_hand s first c.take_line.new.self.line
-    (ap (λ (r : Lined g.row.F.Denot). r.line) took)
+returns-clause-whole g c = grind (arith, common_steps, taken_whole)

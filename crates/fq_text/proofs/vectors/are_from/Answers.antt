@@ -1,10 +1,11 @@
-use Rattle.std.proofs.Common.{length, ◌-◌, ◌∙◌, sym, arith, leb, ◌≡◌, Bool, true, false, ◌&&◌, refl, ℕ, List, [], ◌∷◌, ap, ◌≤◌, ◌<◌, cond, ltb, ⊎_elim, map, ap₂, zero, suc, take, drop, ◌+◌, take-add}
+use Rattle.std.proofs.Common.{length, ◌-◌, ◌∙◌, sym, arith, leb, ◌≡◌, Bool, true, false, ◌&&◌, refl, ℕ, List, [], ◌∷◌, ap, ◌≤◌, ltb, ⊎_elim, map, ap₂, zero, suc, take, drop, ◌+◌, take-add}
 use Rattle.std.specs.List.{list_all}
 use lib.Lanes.{chunk, top, zip2, sel_l}
-use Rattle.std.proofs.lemmas.Bool.{and_left, and_right, and_from, cases_lt, lt-ltb, le-ltb, le-leb, lt-leb, and_parts, cases_Bool}
+use Rattle.std.proofs.lemmas.Bool.{and_from, and_parts, cases_Bool}
 use Rattle.std.proofs.lemmas.List.{take-append-drop, length-drop, take_all, take-take}
 use Rattle.std.proofs.lemmas.List.Folds.{list_all-append}
 use Rattle.std.proofs.lemmas.Simd.{length-chunk}
+use Rattle.std.proofs.lemmas.Grind.{common_steps}
 use Rattle.fq_text.specs.Scores.{is_from}
 use Rattle.fq_text.proofs.VectorLemmas.{flag}
 use Rattle.fq_text.proofs.vectors.are_from.Goals as goal
@@ -27,44 +28,7 @@ last_in_front true true true = refl
 in_both : (p q : ℕ → Bool) (v : List ℕ) →
     list_all (λ x. p x && q x) v ≡ list_all p v && list_all q v
 in_both p q [] = refl
-in_both p q (x ∷ xs) = ap (λ b. (p x && q x) && b) (in_both p q xs)
-    ∙ both_in (p x) (q x) (list_all p xs) (list_all q xs)
-
--- The smaller of two bytes is at least `low` exactly if both are.
-smaller : (low x y : ℕ) → leb low (cond (top 7 (flag (ltb x y))) x y) ≡ leb low x && leb low y
-smaller low x y = ⊎_elim
-    (λ (less : x < y). ap (λ b. leb low (cond (top 7 (flag b)) x y)) (lt-ltb x y less) ∙ ⊎_elim
-    (λ (below : x < low). lt-leb low x below
-    ∙ sym (and_left (leb low x) (leb low y) (lt-leb low x below)))
-    (λ (from : low ≤ x). le-leb low x from
-    ∙ sym (and_from (leb low x) (leb low y) (le-leb low x from) (le-leb low y (omega arith))))
-    (cases_lt x low))
-    (λ (more : y ≤ x). ap (λ b. leb low (cond (top 7 (flag b)) x y)) (le-ltb x y more) ∙ ⊎_elim
-    (λ (below : y < low). lt-leb low y below
-    ∙ sym (and_right (leb low x) (leb low y) (lt-leb low y below)))
-    (λ (from : low ≤ y). le-leb low y from
-    ∙ sym (and_from (leb low x) (leb low y) (le-leb low x (omega arith)) (le-leb low y from)))
-    (cases_lt y low))
-    (cases_lt x y)
-
--- The larger of two bytes is at most `high` exactly if both are.
-larger : (high x y : ℕ) → leb (cond (top 7 (flag (ltb x y))) y x) high ≡ leb x high && leb y high
-larger high x y = ⊎_elim
-    (λ (less : x < y). ap (λ b. leb (cond (top 7 (flag b)) y x) high) (lt-ltb x y less) ∙ ⊎_elim
-    (λ (above : high < y). lt-leb y high above
-    ∙ sym (and_right (leb x high) (leb y high) (lt-leb y high above)))
-    (λ (within : y ≤ high). le-leb y high within
-    ∙ sym (and_from (leb x high) (leb y high) (le-leb x high (omega arith))
-    (le-leb y high within)))
-    (cases_lt high y))
-    (λ (more : y ≤ x). ap (λ b. leb (cond (top 7 (flag b)) y x) high) (le-ltb x y more) ∙ ⊎_elim
-    (λ (above : high < x). lt-leb x high above
-    ∙ sym (and_left (leb x high) (leb y high) (lt-leb x high above)))
-    (λ (within : x ≤ high). le-leb x high within
-    ∙ sym (and_from (leb x high) (leb y high) (le-leb x high within)
-    (le-leb y high (omega arith))))
-    (cases_lt high x))
-    (cases_lt x y)
+in_both p q (x ∷ xs) = grind (arith, common_steps, in_both p q xs)
 
 -- the smaller byte of two vectors at each index
 abbrev smallest : List ℕ → List ℕ → List ℕ
@@ -80,10 +44,7 @@ all_smallest : (low : ℕ) (a b : List ℕ) → length a ≡ length b →
 all_smallest low [] [] long = refl
 all_smallest low [] (y ∷ ys) long = absurd (omega arith)
 all_smallest low (x ∷ xs) [] long = absurd (omega arith)
-all_smallest low (x ∷ xs) (y ∷ ys) long =
-    ap₂ (λ c d. c && d) (smaller low x y) (all_smallest low xs ys (omega arith))
-    ∙ both_in (leb low x) (leb low y) (list_all (λ z. leb low z) xs)
-    (list_all (λ z. leb low z) ys)
+all_smallest low (x ∷ xs) (y ∷ ys) long = grind (arith, common_steps, all_smallest low xs ys)
 
 all_largest : (high : ℕ) (a b : List ℕ) → length a ≡ length b →
     list_all (λ x. leb x high) (largest a b)
@@ -91,10 +52,7 @@ all_largest : (high : ℕ) (a b : List ℕ) → length a ≡ length b →
 all_largest high [] [] long = refl
 all_largest high [] (y ∷ ys) long = absurd (omega arith)
 all_largest high (x ∷ xs) [] long = absurd (omega arith)
-all_largest high (x ∷ xs) (y ∷ ys) long =
-    ap₂ (λ c d. c && d) (larger high x y) (all_largest high xs ys (omega arith))
-    ∙ both_in (leb x high) (leb y high) (list_all (λ z. leb z high) xs)
-    (list_all (λ z. leb z high) ys)
+all_largest high (x ∷ xs) (y ∷ ys) long = grind (arith, common_steps, all_largest high xs ys)
 
 -- Parts of which each byte passes.
 module _ (p : ℕ → Bool) where
@@ -111,8 +69,7 @@ module _ (p : ℕ → Bool) where
 
   more_in_front : (start n : ℕ) (xs : List ℕ) →
       list_all p (take (start + n) xs) ≡ list_all p (take start xs) && list_all p (chunk start n xs)
-  more_in_front start n xs = ap (list_all p) (take-add start n xs)
-      ∙ list_all-append p (take start xs) (take n (drop start xs))
+  more_in_front start n xs = grind (arith, common_steps, take-add, list_all-append)
 
   by_the_last : (start last n : ℕ) (xs : List ℕ) → last + n ≡ length xs → last ≤ start →
       list_all p (take start xs) ≡ true → list_all p (chunk last n xs) ≡ list_all p xs

@@ -1,8 +1,8 @@
 use Rattle.std.proofs.Common.{◌≡◌, ℕ, suc, ◌<◌, ◌≤◌, Bool, true, false, not, eqb, Option, Some, None, List, [], ◌∷◌, length, get_or, refl, sym, arith, ⊎_elim}
 use Rattle.std.specs.List.{list_all}
 use Rattle.std.specs.Option.{is_some}
-use Rattle.std.proofs.lemmas.Bool.{cases_Bool, and_from, not_from_false, not_from_true}
-use Rattle.std.proofs.lemmas.List.Folds.{list_all_at}
+use Rattle.std.proofs.lemmas.Bool.{cases_Bool, and_from, not_from_false}
+use Rattle.std.proofs.lemmas.Grind.{common_steps}
 use Rattle.memchr.specs.Find.{IsFirstByte, is_byte}
 use Rattle.fq_text.proofs.view.is_one_line.Goals as goal
 
@@ -22,8 +22,7 @@ none_found : (xs : List ℕ) (at : Option ℕ) (none : Bool) → IsFirstByte (is
 none_found xs None true found is = sym (without_lf xs found)
 none_found xs None false found is = cc
 none_found xs (Some k) true found is = cc
-none_found xs (Some k) false found is =
-    sym (list_all_at (λ b. not (eqb b 10)) xs k 0 found.0.high (not_from_true _ found.1))
+none_found xs (Some k) false found is = grind (arith, common_steps)
 
 -- a title is one line exactly if a search for LF finds none
 pub returns : goal.returns

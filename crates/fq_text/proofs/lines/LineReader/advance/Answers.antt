@@ -1,6 +1,6 @@
 use Rattle.std.proofs.Common.{◌≡◌, ℕ, ◌+◌, ◌<◌, ◌≤◌, List, length, arith, ap, sym, ◌∙◌, refl, ⊎_elim}
-use Rattle.std.proofs.lemmas.Bool.{cases_lt}
 use Rattle.std.proofs.lemmas.List.{length-drop}
+use Rattle.std.proofs.lemmas.Grind.{common_steps}
 use Rattle.fq_text.specs.Reading.{Lined, NoLf}
 use Rattle.fq_text.proofs.AdvanceLemmas.{judged_as, sound_behind, takes_to, takes_all, long_taken, long_waiting}
 use Rattle.fq_text.proofs.lines.LineReader.advance.Goals as goal
@@ -8,8 +8,7 @@ use Rattle.fq_text.proofs.lines.LineReader.advance.Goals as goal
 -- the first line end is not among the bytes that hold none
 not_before : (xs : List ℕ) (scanned at : ℕ) → NoLf xs scanned →
     (at < length xs) × (Rattle.std.proofs.Common.get_or xs at 0 ≡ 10) × NoLf xs at → scanned ≤ at
-not_before xs scanned at none found = ⊎_elim (λ lt. absurd (none at lt found.1)) (λ le. le)
-    (cases_lt at scanned)
+not_before xs scanned at none found = grind (arith, common_steps)
 
 -- a line end was found: its line is taken, or is too long
 pub returns-in-Some-clause-step : goal.returns-in-Some-clause-step
@@ -38,28 +37,9 @@ returns-in-Some-clause-step g c =
 
 -- so many bytes without a line end belong to a line that is too long
 pub returns-then-scanned-clause-step : goal.returns-then-scanned-clause-step
-returns-then-scanned-clause-step g c =
-    let old = c.loop-at.invariant in (
-      refl,
-      long_waiting g.F.Feed.state c.args.self.now c.loop-at.self old.reads (omega arith)
-          c.in_default.ensures.place,
-    )
+returns-then-scanned-clause-step g c = grind (arith, common_steps, long_waiting)
 
 -- the feed has ended: the bytes in hand are the last line, which may be too long
 pub returns-then-self-clause-step : goal.returns-then-self-clause-step
 returns-then-self-clause-step g c =
-    let old = c.loop-at.invariant in
-    let is = c.take_line-then-self.ensures in
-    let line = takes_all g.F.Feed.state c.args.self.now c.loop-at.self
-    c.take_line-then-self.new.self c.in_hand-scanned.result is c.in_hand-scanned.ensures
-    (omega arith) (ap (λ (r : Lined g.row.F.Denot). r.ended) (sym c.self.view_is)
-    ∙ c.if-self.true) old.reads (λ k lt. c.in_default.ensures.place k (omega arith)) in
-    judged_as c.judged-then-self.result _ _ (length c.take_line-then-self.new.self.line)
-    c.judged-then-self.ensures.ok c.judged-then-self.ensures.err
-    (λ fits. (line, fits))
-    (λ long. (
-      refl,
-      long_taken g.F.Feed.state c.args.self.now c.take_line-then-self.new.self line
-          (sound_behind g.F.Feed.state c.loop-at.self c.take_line-then-self.new.self
-          c.in_hand-scanned.result c.in_hand-scanned.result is old.sound) long,
-    ))
+    grind (arith, common_steps, takes_all, judged_as, long_taken, sound_behind)
