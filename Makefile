@@ -82,7 +82,7 @@ gate:
 	$(NEEDS_KIT)
 	@bash .ci/run
 
-# Tries the wrong bodies in wrong-bodies/ too, and those that `rt plant` makes, of every crate, and
+# Tries the wrong bodies in wrong-bodies.edits too, and those that `rt plant` makes, of every crate, and
 # the recipes of CONTRIBUTING.md; with CRATE=fq_trim the wrong bodies of that crate alone.
 deep:
 	$(NEEDS_KIT)

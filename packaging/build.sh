@@ -64,7 +64,7 @@ beside() {
   local count=$1 niceness=$2 word copy=$room/copy${#helpers[@]}
   shift 2
   mkdir "$copy" "$copy/.git"
-  tar -c --exclude=out --exclude=must-fail --exclude=wrong-bodies crates crates.txt HANDLES | tar -x -C "$copy"
+  tar -c --exclude=out --exclude=must-fail --exclude=wrong-bodies.edits crates crates.txt HANDLES | tar -x -C "$copy"
   (
     set +m # all in the group of this helper
     for word; do

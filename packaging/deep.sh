@@ -1,14 +1,14 @@
 #!/usr/bin/env bash
-# Tries the wrong bodies that aren't part of the gate, crates/NAME/wrong-bodies/*.edit: the prover
-# must refuse each. Then `rt plant` makes others, and those that it lets through must be those of
+# Tries the wrong bodies that aren't part of the gate, those of crates/NAME/wrong-bodies.edits: the
+# prover must refuse each. Then `rt plant` makes others, and those that it lets through must be those of
 # tests/wrong_bodies/survivors.tsv.
 set -euo pipefail
 cd "$(dirname "$0")/.."
 
 if [ "${1-}" = --help ]; then
   echo "usage: packaging/deep.sh [CRATE..]
-Copies the crates, moves crates/CRATE/wrong-bodies/*.edit into crates/CRATE/must-fail/ of the copy,
-and runs 'rt ci CRATE..' there. Then it runs 'rt plant' in each crate, for at most PLANT_MINUTES
+Copies the crates, makes a file in crates/CRATE/must-fail/ of the copy of each edit in
+crates/CRATE/wrong-bodies.edits, and runs 'rt ci CRATE..' there. Then it runs 'rt plant' in each crate, for at most PLANT_MINUTES
 (default: 60), and compares what the contracts let through with tests/wrong_bodies/survivors.tsv.
 Without CRATE it does so for every crate that has such edits, and tries the recipes of
 CONTRIBUTING.md (tests/rehearsal.sh --try). The last line is 'N wrong bodies refused, M not'.
@@ -36,9 +36,9 @@ if [ $# -gt 0 ]; then
   try=(rt must-fail "$@")
 else
   try=(rt ci)
-  for folder in crates/*/wrong-bodies; do
-    folder=${folder%/wrong-bodies}
-    set -- "$@" "${folder#crates/}"
+  for edits in crates/*/wrong-bodies.edits; do
+    crate=${edits%/wrong-bodies.edits}
+    set -- "$@" "${crate#crates/}"
   done
 fi
 if ci_takes_crates; then
@@ -50,15 +50,16 @@ cp crates.txt HANDLES "$room"
 
 wanted=() # each edit that must be refused
 for crate; do
-  if [ ! -d "$room/crates/$crate/wrong-bodies" ]; then
-    echo "deep: there is no directory crates/$crate/wrong-bodies" >&2
+  if [ ! -f "crates/$crate/wrong-bodies.edits" ]; then
+    echo "deep: there is no file crates/$crate/wrong-bodies.edits" >&2
     exit 2
   fi
-  mkdir -p "$room/crates/$crate/must-fail"
-  mv -n "$room/crates/$crate"/wrong-bodies/*.edit "$room/crates/$crate/must-fail/"
-  for edit in "crates/$crate"/{must-fail,wrong-bodies}/*.edit; do
-    if [ -e "$edit" ]; then wanted+=("$crate/${edit##*/}"); fi
-  done
+  folder=$room/crates/$crate/must-fail
+  mkdir -p "$folder"
+  awk -v folder="$folder" '/^$/ { file = ""; next } file == "" { file = $0; next }
+    /^edit: / { edit = folder "/" $2 ".edit"; print file > edit; next } { print > edit }' \
+    "crates/$crate/wrong-bodies.edits"
+  for edit in "$folder"/*.edit; do wanted+=("$crate/${edit##*/}"); done
 done
 echo "deep: ${#wanted[@]} wrong bodies of $# crates, including those of the gate"
 

@@ -10,7 +10,7 @@ for crate in fq_text fq_app; do
 done
 room=$(mktemp -d)
 trap 'rm -rf "$room"' EXIT
-tar -c --exclude=out --exclude=must-fail --exclude=wrong-bodies crates crates.txt HANDLES | tar -x -C "$room"
+tar -c --exclude=out --exclude=must-fail --exclude=wrong-bodies.edits crates crates.txt HANDLES | tar -x -C "$room"
 if ! (cd "$room/crates/fq_prog" && rt run -- EXAMPLE) > "$room/log" 2>&1; then
   tail -n 20 "$room/log"
   fail 'the copy is not built'

@@ -49,7 +49,8 @@ def has_trial(part: str, text_of: Reader) -> bool:
     """Whether `NAME.rows:row` is there, or a test with these words outside of its comments."""
     file, _, words = part.partition(":")
     if file.endswith(".rows"):
-        return f"\nrow: {words}\n" in (text_of(f"crates/fq_test_rows/data/{file}") or "")
+        rows = text_of(f"crates/fq_test_rows/data/{file}") or ""
+        return bool(re.search(rf"(?m)^(?:row: {re.escape(words)}$|\| {re.escape(words)} *\|)", rows))
     code = re.sub(r"(?m)^\s*(?:#|//).*$", "", text_of(file) or "")
     return bool(code and re.search(rf"(?<!\w){re.escape(words)}(?!\w)", code))
 

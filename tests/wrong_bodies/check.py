@@ -1,8 +1,8 @@
 #!/usr/bin/env python3
 """Checks the wrong bodies of every crate without a proof. Run it in the root of the repository.
 
-Each edit in must-fail/ and wrong-bodies/ still applies: its file exists, each text after 'old:' is
-in the file once, and something changes. No name is given twice in a crate. Each public function of
+Each edit in must-fail/ and wrong-bodies.edits still applies: its file exists, each text after 'old:'
+is in the file once, and something changes. No name is given twice in a crate. Each public function of
 a crate with wrong bodies has a row in guards.tsv beside this script, and each operation has an edit,
 which the gate or `make deep` tries. Each row of survivors.tsv names a file, and says why it is right.
 """
@@ -12,13 +12,29 @@ import sys
 from pathlib import Path
 
 KINDS = ("operation", "value", "law")
-FOLDERS = ("must-fail", "wrong-bodies")
 
 
-def fault_of(edit, crate):
+def edits_of_gate(crate):
+    """The edits that the gate tries, (name, lines)."""
+    for path in sorted(crate.glob("must-fail/*.edit")):
+        yield path.stem, path.read_text(encoding="utf-8").splitlines()
+
+
+def edits_beside_gate(crate):
+    """The edits that `make deep` tries, (name, lines). Those of a file stand after its line 'file: NAME',
+    each after 'edit: NAME', up to a blank line."""
+    path = crate / "wrong-bodies.edits"
+    for group in path.read_text(encoding="utf-8").split("\n\n") if path.is_file() else ():
+        file, *edits = re.split(r"\n(?=edit: )", group)
+        for edit in edits:
+            head, *lines = edit.splitlines()
+            yield head.removeprefix("edit: "), [file, *lines]
+
+
+def fault_of(lines, crate):
     """What is wrong with an edit, or None."""
     texts, path, old, changed = {}, None, None, False
-    for line in edit.read_text(encoding="utf-8").splitlines():
+    for line in lines:
         word, _, text = line.partition(": ")
         if word == "file":
             path = crate / text
@@ -70,12 +86,12 @@ def guards(path):
     return rows
 
 
-def faults_of_guards(crates, rows):
+def faults_of_guards(crates, names, rows):
     public = {(crate.name, function) for crate in crates for function in public_functions(crate)}
     for crate, function in sorted(public - set(rows)):
         yield f"{crate}: {function} is public and has no row in guards.tsv"
     for (crate, function), (kind, edit) in sorted(rows.items()):
-        at = [folder for folder in FOLDERS if Path("crates", crate, folder, edit + ".edit").is_file()]
+        at = (crate, edit) in names
         if (crate, function) not in public:
             yield f"guards.tsv: {crate} has no public function {function}"
         elif kind not in KINDS:
@@ -97,26 +113,25 @@ def faults_of_survivors(path):
 
 def main():
     here = Path(__file__).resolve().parent
-    crates = sorted({path.parent for folder in FOLDERS for path in Path("crates").glob(f"*/{folder}")})
-    faults, count = [], {}
+    crates = sorted({path.parent.parent for path in Path("crates").glob("*/must-fail/*.edit")})
+    crates = sorted({*crates, *(path.parent for path in Path("crates").glob("*/wrong-bodies.edits"))})
+    faults, names, count = [], set(), {}
     for crate in crates:
-        names = set()
-        for folder in FOLDERS:
-            edits = sorted((crate / folder).glob("*.edit"))
-            count[folder] = count.get(folder, 0) + len(edits)
-            for edit in edits:
-                fault = fault_of(edit, crate)
+        for where, edits in (("in the gate", edits_of_gate), ("beside it", edits_beside_gate)):
+            for name, lines in edits(crate):
+                count[where] = count.get(where, 0) + 1
+                fault = fault_of(lines, crate)
                 if fault:
-                    faults.append(f"{edit}: {fault}")
-                if edit.name in names:
-                    faults.append(f"{edit}: the name is given twice")
-                names.add(edit.name)
-    faults += faults_of_guards(crates, guards(here / "guards.tsv"))
+                    faults.append(f"{crate.name}: {name}: {fault}")
+                if (crate.name, name) in names:
+                    faults.append(f"{crate.name}: {name} is given twice")
+                names.add((crate.name, name))
+    faults += faults_of_guards(crates, names, guards(here / "guards.tsv"))
     faults += faults_of_survivors(here / "survivors.tsv")
     for fault in faults:
         print(f"wrong_bodies: {fault}")
     if not faults:
-        print(f"wrong_bodies: ok, {count['must-fail']} in the gate and {count['wrong-bodies']} beside it")
+        print("wrong_bodies: ok, " + " and ".join(f"{number} {where}" for where, number in count.items()))
     return 1 if faults else 0
 
 

@@ -99,8 +99,8 @@ fn run_rows<R: Threads + Wait + Print + AllocGlobal + Files + Copy + Send + 'sta
 ) -> Result<()> {
     let mut names = Names::new(rt.alloc());
     for block in text.split("\n\n") {
-        if let Some(row) = read_block(rt.alloc(), &mut names, block)? {
-            if run_row(rt, &mut names, &row)? {
+        for row in read_block(rt.alloc(), &mut names, block)?.iter() {
+            if run_row(rt, &mut names, row)? {
                 score.passed = score.passed.saturating_add(1);
             } else {
                 score.failed = score.failed.saturating_add(1);

@@ -11,6 +11,11 @@
 //! - `do: WORD` selects the function that computes the answers.
 //! - `= KEY: TEXT` is an expected answer, and `~ KEY: TEXT` an expected part of one.
 //! - Other lines are inputs of that function.
+//!
+//! Rows with the same keys may stand in a table. Its first line `| KEY | KEY |` has the keys, and
+//! each other one `| TEXT | TEXT |` is a row, with these texts and the other lines of the block. A
+//! key `<NAME>` gives the text that name, for its row. If no key is `row`, a line is the name of its
+//! row. Spaces around a text don't count.
 
 use crate::names::{Names, decode};
 use anyhow::{Context, Result, bail};
@@ -23,8 +28,10 @@ use std::str;
 pub struct Row<'a> {
     /// What the row is about.
     pub name: &'a str,
-    // Names, and the words that they get in turn.
-    sweeps: Vec<(&'a str, Vec<&'a str>)>,
+    // Names, and the words that they get in turn, separated by single spaces.
+    sweeps: Vec<(&'a str, &'a str)>,
+    // Names, and their texts.
+    texts: Vec<(&'a str, &'a str)>,
     lines: Vec<(&'a str, &'a str)>,
 }
 
@@ -33,22 +40,26 @@ impl<'a> Row<'a> {
     pub fn turns(&self) -> u64 {
         let mut turns = 1u64;
         for (_, words) in self.sweeps.iter() {
-            turns = turns.saturating_mul(words.len() as u64);
+            turns = turns.saturating_mul(words.split(' ').count() as u64);
         }
         turns
     }
 
-    /// Gives the names of the sweeps their words in this turn, counted from 0. Returns these words,
-    /// or `once` if there is no sweep.
+    /// Gives the names of the row their texts, and those of the sweeps their words in this turn,
+    /// counted from 0. Returns these words, or `once` if there is no sweep.
     pub fn put_words(&self, alloc: Global, names: &mut Names<'a>, turn: u64) -> Result<String> {
+        for (name, text) in self.texts.iter() {
+            let text = decode(alloc, names, text)?;
+            names.put(*name, text)?;
+        }
         let mut said = String::new(alloc);
         let mut rest = turn;
         for (keys, words) in self.sweeps.iter() {
-            let count = words.len() as u64;
+            let count = words.split(' ').count() as u64;
             if count == 0 {
                 bail!("no words: {keys:?}");
             }
-            if let Some(word) = words.get((rest % count) as usize) {
+            if let Some(word) = words.split(' ').nth((rest % count) as usize) {
                 names.put_parts(alloc, *keys, word)?;
                 write!(said, "{}{word}", if said.is_empty() { "" } else { ", " })?;
             }
@@ -59,28 +70,75 @@ impl<'a> Row<'a> {
         }
         Ok(said)
     }
+
+    // Returns this row with the texts of a line of a table under the table's keys.
+    fn with_cells(&self, alloc: Global, keys: &'a str, case: &'a str) -> Result<Row<'a>> {
+        let mut row = Row {
+            name: case,
+            sweeps: Vec::from_slice(alloc, self.sweeps.as_slice())?,
+            texts: Vec::new(alloc),
+            lines: Vec::from_slice(alloc, self.lines.as_slice())?,
+        };
+        let keys = cells_of(alloc, keys)?;
+        let cells = cells_of(alloc, case)?;
+        if keys.len() != cells.len() {
+            bail!("{case:?} has another number of texts than the table has keys");
+        }
+        for (key, cell) in keys.iter().zip(cells.iter()) {
+            let (key, text) = (key.trim(), cell.trim());
+            if key == "row" {
+                row.name = text;
+            } else if let Some((name, _)) = key.strip_prefix('<').and_then(|k| k.split_once('>')) {
+                row.texts.push((name, text))?;
+            } else {
+                row.lines.push((key, text))?;
+            }
+        }
+        Ok(row)
+    }
 }
 
-/// Reads a block of lines: gives texts their names, and returns the row, if there is one.
+/// Reads a block of lines: gives texts their names, and returns the rows.
 pub fn read_block<'a>(
     alloc: Global,
     names: &mut Names<'a>,
     block: &'a str,
-) -> Result<Option<Row<'a>>> {
+) -> Result<Vec<Row<'a>>> {
     let mut row = Row {
         name: "",
         sweeps: Vec::new(alloc),
+        texts: Vec::new(alloc),
         lines: Vec::new(alloc),
     };
+    let mut table = Vec::new(alloc);
     for line in block.lines() {
-        if !line.is_empty() && !line.starts_with('#') {
+        if line.starts_with('|') {
+            table.push(line)?;
+        } else if !line.is_empty() && !line.starts_with('#') {
             read_line(alloc, names, &mut row, line)?;
         }
     }
-    if row.name.is_empty() && row.lines.is_empty() {
-        return Ok(None);
+    rows_of(alloc, row, table.as_slice())
+}
+
+// Returns the rows of a block that has these lines besides those of its table.
+fn rows_of<'a>(alloc: Global, row: Row<'a>, table: &[&'a str]) -> Result<Vec<Row<'a>>> {
+    let mut rows = Vec::new(alloc);
+    if let Some((keys, cases)) = table.split_first() {
+        for case in cases.iter() {
+            rows.push(row.with_cells(alloc, keys, case)?)?;
+        }
+    } else if !row.name.is_empty() || !row.lines.is_empty() {
+        rows.push(row)?;
     }
-    Ok(Some(row))
+    Ok(rows)
+}
+
+// Splits a line of a table into its cells.
+fn cells_of<'a>(alloc: Global, line: &'a str) -> Result<Vec<&'a str>> {
+    let inner = line.strip_prefix("| ").and_then(|rest| rest.strip_suffix(" |"));
+    let inner = inner.context(format_args!("no line of a table: {line:?}"))?;
+    Ok(inner.split(" | ").collect(alloc)?)
 }
 
 // Reads a line that is not a comment.
@@ -97,7 +155,7 @@ fn read_line<'a>(
         let text = decode(alloc, names, text)?;
         names.put(name, text)?;
     } else if let Some(name) = key.strip_prefix("each ") {
-        row.sweeps.push((name, text.split(' ').collect(alloc)?))?;
+        row.sweeps.push((name, text))?;
     } else {
         row.lines.push((key, text))?;
     }
