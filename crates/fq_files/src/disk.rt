@@ -2,6 +2,7 @@
 
 ghost use Rattle.std.specs.Prelude.{◌≡◌, ◌⊎◌, ◌<◌, ℕ, Bool, Some, None, Err, [], IfOk, IfSome, OnOk, OnErr, IsSome, IsTrue};
 ghost use Rattle.fq_files.specs.Disks.{DiskState, IsCreated, IsFacts, IsFactsOf, IsRegular, KeepsInodes, KeepsLeading, KeepsNames, KeepsOthers, OnlyChanges, Tells};
+ghost use Rattle.fq_files.specs.States.{TellsWhy};
 
 use fq_text::{Feed, OutOfMemory, Outlet, Seen, SystemError};
 
@@ -137,7 +138,7 @@ pub trait Disk {
 
     /// What a reader can say after it was used. Nothing changes.
     fn seen(&self, reader: Self::Reader) -> Seen
-        ensures why { (Self.Reader.state reader).failures ≡ 0 → result.error ≡ None };
+        ensures why { TellsWhy (Self.Reader.state reader).failures result.error };
 
     /// The writer of an open file, which is empty if it is regular. If it `syncs`, a flush waits
     /// until its bytes are on stable storage. Nothing changes.
@@ -169,8 +170,7 @@ pub trait Disk {
         ensures others { KeepsOthers (state self.old) (state self.new)
             (Self.Writer.inode writer) }
         ensures names { KeepsNames (state self.old) (state self.new) }
-        ensures why { (Self.Writer.state writer).failures ≡ 0 → result.error ≡ None }
-        ensures told { 0 < (Self.Writer.state writer).failures → IsSome result.error }
+        ensures why { TellsWhy (Self.Writer.state writer).failures result.error }
         ensures rightly { (error : SystemError) → result.error ≡ Some error
             → IsTrue ((state self.old).fails (Self.Writer.inode writer) error) }
         ensures flushed { result.is_flushed ≡ (Self.Writer.state writer).is_flushed };

@@ -45,6 +45,7 @@ pub struct DiskFiles<D> {
 impl<D: Disk> DiskFiles<D> {
     ghost use Rattle.std.specs.Prelude.{◌≡◌, ◌≢◌, ◌⊎◌, ◌<◌, ℕ, false, None, Some, Err, [], IfOk, OnOk, OnErr, IsTrue, IsErr, IsSome};
     ghost use Rattle.fq_files.specs.Disks.{IsRegular, KeepsLeading, KeepsNames, KeepsOthers, Tells};
+    ghost use Rattle.fq_files.specs.States.{TellsWhy};
     ghost use Rattle.fq_files.specs.ByInode.{is_in, IsCause, IsSource, IsSynced, IsTarget, KeepsAll, KeepsThese, KeepsUnnamed, Remain, Syncs};
 
     /// The files of this disk, none of them an input or an output.
@@ -107,7 +108,7 @@ impl<D: Disk> DiskFiles<D> {
 
     /// Hands a feed back. No file changes. See [`Files::source_done`].
     pub fn close_source(&mut self, feed: D::Reader) -> Seen
-        ensures why { (D.Reader.state feed).failures ≡ 0 → result.error ≡ None }
+        ensures why { TellsWhy (D.Reader.state feed).failures result.error }
         ensures failed { 0 < (D.Reader.state feed).failures → IsTrue self.new.has_failed }
         ensures sound { (D.Reader.state feed).failures ≡ 0 → self.new ≡ self.old }
         ensures still { IsTrue self.old.has_failed → IsTrue self.new.has_failed }
@@ -199,8 +200,7 @@ impl<D: Disk> DiskFiles<D> {
         ensures others { KeepsOthers (D.state self.old.disk) (D.state self.new.disk)
             (D.Writer.inode target) }
         ensures names { KeepsNames (D.state self.old.disk) (D.state self.new.disk) }
-        ensures why { (D.Writer.state target).failures ≡ 0 → result ≡ None }
-        ensures told { 0 < (D.Writer.state target).failures → IsSome result }
+        ensures why { TellsWhy (D.Writer.state target).failures result }
         ensures rightly { (error : SystemError) → result ≡ Some error
             → IsTrue ((D.state self.old.disk).fails (D.Writer.inode target) error) }
         ensures failed { 0 < (D.Writer.state target).failures → IsTrue self.new.has_failed }
