@@ -45,5 +45,6 @@ returns-clause-rest g c =
 -- the error that is told of the report is one that its device may say, if that has failed
 pub returns-clause-report_says : goal.returns-clause-report_says
 returns-clause-report_says g c =
-    says_as _ _ (λ (may_say : Errors). IsReportError (asking_of c.args.request.now) may_say
-    c.complete.result.reported c.complete.result.report_error) c.in_ok-devices.ensures.sound c.complete.ensures.report_says
+    let P : Errors → Type 0 = λ may_say. IsReportError (asking_of c.args.request.now) may_say
+    c.complete.result.reported c.complete.result.report_error in
+    says_as _ _ P c.in_ok-devices.ensures.sound c.complete.ensures.report_says
