@@ -1,5 +1,5 @@
 -- Replies to some blocks and one more, and histories with more items.
-use Rattle.std.proofs.Common.{◌≡◌, Bool, true, false, List, [], ◌∷◌, ◌++◌, refl, sym, ap, ◌∙◌, append_assoc, Option, Some, None, is_some, Result, Ok, Err, IfOk}
+use Rattle.std.proofs.Common.{arith, ◌≡◌, Bool, true, false, List, [], ◌∷◌, ◌++◌, refl, sym, ap, ◌∙◌, append_assoc, Option, Some, None, is_some, Result, Ok, Err, IfOk}
 use Rattle.std.proofs.lemmas.List.{append-nil}
 use Rattle.fq_trim.specs.declared.step.Step.{Step}
 use Rattle.fq_lane.specs.History.{History, with_item, with_mark}
@@ -8,12 +8,12 @@ use Rattle.fq_pair.specs.Mates.{Mates}
 use Rattle.fq_report_pairs.specs.declared.done.Done.{Done}
 use Rattle.fq_report_pairs.specs.declared.tally.Tally.{Tally}
 use Rattle.fq_report_pairs.specs.Results.{tally_with}
-use Rattle.fq_report_pairs.proofs.ResultLemmas.{with_more as with_others}
 use Rattle.fq_work.specs.declared.reply.Cause.{Cause}
 use Rattle.fq_work.specs.declared.reply.Reply.{Reply}
 use Rattle.fq_work.specs.declared.reply.Reply.TheVariants.{Done as done, Stop}
 use Rattle.fq_work.specs.Replies.{done_of, Answers}
 use Rattle.fq_work.specs.Work.{pairs_of, with_items, HasAnswered, HasDrained}
+use Rattle.std.proofs.lemmas.Grind.{common_steps}
 
 module _ (steps : List Step) where
   -- with one more block, which is done
@@ -48,34 +48,20 @@ module _ (steps : List Step) where
 module _ {T : Type 0} where
   -- a history with no more items is the same
   pub with_none : (l : History T) → l ≡ with_items l [] l.marked
-  with_none l = ap (λ xs. let k : History T = record {
-    name = l.name;
-    items = xs;
-    marked =
-        l.marked;
-  } in k) (sym (append-nil l.items))
+  with_none l =
+      grind (arith, common_steps)
 
   -- one item after some
   pub with_more : (l k n : History T) (xs : List T) (x : T) (m : Bool) → k ≡ with_items l xs m →
       n ≡ with_item k x → n ≡ with_items l (xs ++ x ∷ []) m
   with_more l k n xs x m e f =
-      f ∙ ap (λ j. with_item j x) e ∙ ap (λ ys. let j : History T = record {
-        name = l.name;
-        items =
-            ys;
-        marked = m;
-      } in j) (append_assoc l.items xs (x ∷ []))
+      grind (arith, common_steps, append_assoc)
 
   -- some items after some, and the mark
   pub with_both : (l k n : History T) (xs ys : List T) (m : Bool) → k ≡ with_items l xs m →
       n ≡ with_items k ys true → n ≡ with_items l (xs ++ ys) true
   with_both l k n xs ys m e f =
-      f ∙ ap (λ j. with_items j ys true) e ∙ ap (λ zs. let j : History T = record {
-        name =
-            l.name;
-        items = zs;
-        marked = true;
-      } in j) (append_assoc l.items xs ys)
+      grind (arith, common_steps, append_assoc)
 
 -- the pairs of some blocks, and of others
 pub pairs_of-append : (bs ds : List Numbered) → pairs_of (bs ++ ds) ≡ pairs_of bs ++ pairs_of ds
@@ -88,10 +74,7 @@ pub tally_more : (steps : List Step) (t u v : Option Tally) (bs : List Numbered)
     u ≡ tally_with steps t (pairs_of bs) → v ≡ tally_with steps u b.pairs →
     v ≡ tally_with steps t (pairs_of (bs ++ b ∷ []))
 tally_more steps t u v bs b was is =
-    is ∙ ap (λ (w : Option Tally). tally_with steps w b.pairs) was
-    ∙ with_others steps t (pairs_of bs) b.pairs
-    ∙ ap (tally_with steps t) (sym (pairs_of-append bs (b ∷ [])
-    ∙ ap (λ (ms : List Mates). pairs_of bs ++ ms) (append-nil b.pairs)))
+    grind (arith, common_steps, pairs_of-append, append-nil)
 
 -- what was taken and answered in all: up to a mark, or drained up to it after a Stop
 module _ (steps : List Step) where
@@ -123,14 +106,7 @@ module _ (steps : List Step) where
         counted = λ none. (same is).2 ∙ h.counted none;
       }
   worked (Some c) b t t1 t2 rx rx1 rx2 tx tx1 tx2 is h more same =
-      let d = more is in record {
-        took = h.took ++ d.0.took;
-        replies = h.replies;
-        received = with_both rx rx1 rx2 h.took d.0.took rx.marked h.received d.0.received;
-        sent = d.1 ∙ h.sent;
-        answers = answers_more steps h.took d.0.took h.replies c h.answers;
-        counted = λ none. absurd (let no : Some c ≡ None = none in cc);
-      }
+      grind (arith, common_steps, with_both, answers_more)
 
 -- a lane that is closed after some replies has these replies and then the mark
 pub closed : {E : Type 0} (tx tx1 : History Reply) (replies : List Reply)
