@@ -1,6 +1,7 @@
 -- A block that is being filled.
-use Rattle.std.proofs.Common.{◌≡◌, ℕ, ◌+◌, ◌<◌, ◌≤◌, Option, Some, None, [], ◌∷◌, ◌++◌, length, refl, sym, ap, subst, ◌∙◌, arith}
+use Rattle.std.proofs.Common.{◌≡◌, ℕ, ◌+◌, ◌<◌, ◌≤◌, Option, Some, None, [], ◌∷◌, ◌++◌, length, sym, subst, arith}
 use Rattle.std.proofs.lemmas.List.{length-append}
+use Rattle.std.proofs.lemmas.Grind.{common_steps}
 use Rattle.fq_block.specs.Blocks.{Numbered}
 use Rattle.fq_pair.specs.declared.fault.InputFault.{InputFault}
 use Rattle.fq_pair.specs.Mates.{Mates}
@@ -9,8 +10,7 @@ use Rattle.fq_run_core.specs.declared.reading_end.ReadingEnd.TheVariants as read
 use Rattle.fq_run.specs.dealer.Filling.{Fills}
 use Rattle.fq_pair.specs.Walks.{SourceState, Walks, MeetsEnd, MeetsFault, GoesOn}
 use Rattle.fq_run_core.specs.PairsRead.{Reads}
-use Rattle.fq_run_core.proofs.WalkLemmas.{walks_none, walks_then}
-use Rattle.fq_pair.proofs.SideLemmas.{walked_records}
+use Rattle.fq_run_core.proofs.WalkLemmas.{walks_then}
 
 -- `n` pairs were read, and are in the block
 pub record Filled (old now : SourceState) (empty block : Numbered) (n : ℕ) : Type 0 where
@@ -32,13 +32,7 @@ pushed block m = record {
 -- an empty block is one into which no pair was read yet
 pub filled_none : (s : SourceState) (block : Numbered) → GoesOn s → block.pairs ≡ [] →
     Filled s s block block 0
-filled_none s block goes clear = record {
-  number = refl;
-  encoding = refl;
-  len = ap length clear;
-  walks = subst (Walks s s) (sym clear) (walks_none s goes.last);
-  goes = goes;
-}
+filled_none s block goes clear = grind (arith, common_steps)
 
 -- one more pair was read, and is in the block
 pub filled_more : (old now next : SourceState) (empty block then : Numbered) (n : ℕ) (m : Mates) →
@@ -59,59 +53,30 @@ filled_more old now next empty block then n m f w within is =
 -- the block is in the encoding of the source that fills it
 pub filled_encoding : (old now : SourceState) (empty block : Numbered) (n : ℕ) →
     Filled old now empty block n → empty.encoding ≡ old.encoding → block.encoding ≡ now.encoding
-filled_encoding old now empty block n f is = let w = f.walks in let s = w.same in f.encoding ∙ is
-    ∙ sym s.encoding
-
--- the pairs of the block are no more than the bytes that may come
-filled_within : (old now : SourceState) (empty block : Numbered) (n : ℕ) →
-    Filled old now empty block n → old.forward.given + length block.pairs ≤ old.most_bytes
-filled_within old now empty block n f =
-    let w = f.walks in let s = w.same in let g = f.goes in let given =
-    walked_records old now block.pairs w in let most = s.most_bytes in let within = g.within in
-    omega arith
+filled_encoding old now empty block n f is = grind (arith, common_steps)
 
 module _ (old now : SourceState) (empty block : Numbered) (n most : ℕ)
     (f : Filled old now empty block n) where
   -- the block is full, and reading goes on
   pub fills_full : n ≡ most → Fills old now most empty block None
-  fills_full full = let len = f.len in record {
-    number = f.number;
-    encoding = f.encoding;
-    few = omega arith;
-    full = λ going. f.len ∙ full;
-    reads = f.walks;
-    lost = λ refused. absurd cc;
-    within = filled_within old now empty block n f;
-    goes = λ going. f.goes;
-  }
+  fills_full full = grind (arith, common_steps)
 
   -- reading stopped after the block
   fills_stopped : (next : SourceState) (stop : ReadingEnd) → n < most →
       Reads old next block.pairs (Some stop) →
       (stop ≡ reading.Memory → next.given ≡ old.given + length block.pairs + 1) →
       Fills old next most empty block (Some stop)
-  fills_stopped next stop room reads lost = let len = f.len in record {
-    number = f.number;
-    encoding = f.encoding;
-    few = omega arith;
-    full = λ going. absurd cc;
-    reads = reads;
-    lost = λ refused. lost cc;
-    within = filled_within old now empty block n f;
-    goes = λ going. absurd cc;
-  }
+  fills_stopped next stop room reads lost = grind (arith, common_steps)
 
   -- the end of the input was found before the block was full
   pub fills_end : (next : SourceState) → n < most → MeetsEnd now next →
       Fills old next most empty block (Some reading.End)
-  fills_end next room e = fills_stopped next reading.End room (now, f.walks, e)
-      (λ refused. absurd cc)
+  fills_end next room e = grind (arith, common_steps)
 
   -- a fault was found before the block was full
   pub fills_fault : (next : SourceState) (why : InputFault) → n < most → MeetsFault now next why →
       Fills old next most empty block (Some (reading.Fault why))
-  fills_fault next why room e = fills_stopped next (reading.Fault why) room (now, f.walks, e)
-      (λ refused. absurd cc)
+  fills_fault next why room e = grind (arith, common_steps)
 
   -- memory for one more pair was refused: that pair is lost, and the block is as it was
   pub fills_refused : (next : SourceState) (then : Numbered) (m : Mates) → n < most →
@@ -127,5 +92,4 @@ module _ (old now : SourceState) (empty block : Numbered) (n most : ℕ)
 pub fills_as : (old new : SourceState) (most most' : ℕ) (empty block : Numbered)
     (why : Option ReadingEnd) → most' ≡ most → Fills old new most' empty block why →
     Fills old new most empty block why
-fills_as old new most most' empty block why same f = let P : ℕ → Type 0 =
-    λ n. Fills old new n empty block why in subst P same f
+fills_as old new most most' empty block why same f = grind (arith, common_steps)
