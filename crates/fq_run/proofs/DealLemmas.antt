@@ -2,6 +2,7 @@ use Rattle.std.proofs.Common.{◌≡◌, ℕ, zero, suc, ◌+◌, ◌-◌, ◌<�
 use Rattle.std.proofs.Math.Nat.{suc-mod, mod-eq_of_lt, mod_self, zero-mod}
 use Rattle.std.proofs.lemmas.Nat.{mod_below}
 use Rattle.std.proofs.lemmas.Bool.{cases_lt}
+use Rattle.std.proofs.lemmas.Grind.{common_steps}
 use mathlib.Core.List.{IsPrefix}
 use Rattle.fq_run.specs.Shares.{every, dealt_to, deal, gather_turns, gather, total_length}
 
@@ -14,22 +15,13 @@ pub next_within : (n w : ℕ) → suc (n % w) < w → suc n % w ≡ suc (n % w)
 next_within n w lt = suc-mod n w ∙ mod-eq_of_lt lt
 
 last_before : (n w : ℕ) → 0 < w → suc n % w ≡ 0 → n % w ≡ w - 1
-last_before n w pos e =
-    elim (cases_lt (suc (n % w)) w) [
-      | inl more ↦ (let f = next_within n w more in absurd (omega arith))
-      | inr last ↦ (let f = mod_below n w pos in omega arith)
-    ]
+last_before n w pos e = grind (arith, common_steps)
 
 last_after : (n w : ℕ) → 0 < w → n % w ≡ w - 1 → suc n % w ≡ 0
 last_after n w pos e = next_wraps n w pos (let f = mod_below n w pos in omega arith)
 
 inner_before : (n w k : ℕ) → 0 < w → suc n % w ≡ suc k → n % w ≡ k
-inner_before n w k pos e =
-    elim (cases_lt (suc (n % w)) w) [
-      | inl more ↦ (let f = next_within n w more in omega arith)
-      | inr last ↦ (let g = mod_below n w pos in let f = next_wraps n w pos (omega arith) in
-          absurd (omega arith))
-    ]
+inner_before n w k pos e = grind (arith, common_steps)
 
 inner_after : (n w k : ℕ) → suc k < w → n % w ≡ k → suc n % w ≡ suc k
 inner_after n w k lt e = next_within n w (omega arith) ∙ ap (λ i. suc i) e
@@ -81,9 +73,7 @@ module _ {T : Type 0} where
   -- one more member, in the list whose turn it is
   pub every_here : (xs : List T) (x : T) (k w : ℕ) → k < w → length xs % w ≡ k →
       every k w (xs ++ x ∷ []) ≡ every k w xs ++ x ∷ []
-  every_here [] x k w lt e =
-      let z : k ≡ 0 = sym e ∙ zero-mod w in
-      ap (λ i. every i w (x ∷ [])) z
+  every_here [] x k w lt e = grind (arith, common_steps)
   every_here (y ∷ xs) x zero w lt e =
       let pos : 0 < w = omega arith in
       ap (λ ys. y ∷ ys) (every_here xs x (w - 1) w (omega arith) (last_before (length xs) w pos e))
@@ -126,10 +116,7 @@ module _ {T : Type 0} where
       ((j : ℕ) → j < w → IsPrefix (every j w xs) (every j w ys)) →
       every (length xs % w) w ys ≡ every (length xs % w) w xs → xs ≡ ys
   whole_from_turns [] [] w pos pre end = refl
-  whole_from_turns [] (y ∷ ys) w pos pre end =
-      let P : ℕ → Type 0 = λ k. every k w (y ∷ ys) ≡ every {T = T} k w [] in
-      let e : y ∷ every (w - 1) w ys ≡ [] = subst P (zero-mod w) end in
-      cc
+  whole_from_turns [] (y ∷ ys) w pos pre end = grind (arith, common_steps)
   whole_from_turns (x ∷ xs) [] w pos pre end =
       let p = (pre 0 pos).1 in
       cc

@@ -1,6 +1,7 @@
 -- Facts about members at the same index, and what is known of new lanes.
-use Rattle.std.proofs.Common.{◌≡◌, ℕ, ◌+◌, false, List, [], ◌∷◌, ◌++◌, length, length-append, sym, ap, ◌∙◌, subst, arith, Result, Ok, Err, IfOk}
+use Rattle.std.proofs.Common.{◌≡◌, ℕ, ◌+◌, false, List, [], ◌∷◌, ◌++◌, length, length-append, sym, subst, arith}
 use Rattle.std.specs.List.{AllZip}
+use Rattle.std.proofs.lemmas.Grind.{common_steps}
 use Rattle.fq_lane.specs.History.{History, Name}
 use Rattle.fq_run.specs.Each.{Each3}
 use Rattle.fq_run.specs.lanes.Laying.{fresh}
@@ -58,13 +59,4 @@ module _ {A B C : Type 0} (R Q : A → B → C → Type 0) where
 -- a lane through which nothing has gone
 pub fresh_is : {T : Type 0} (l : History T) (n : Name) → l.name ≡ n → l.items ≡ [] →
     l.marked ≡ false → l ≡ fresh n
-fresh_is {T = T} l n p q r =
-    ap (λ m. let k : History T = record { name = m; items = l.items; marked = l.marked } in k) p
-    ∙ ap (λ xs. let k : History T = record { name = n; items = xs; marked = l.marked } in k) q
-    ∙ ap (λ b. let k : History T = record { name = n; items = []; marked = b } in k) r
-
--- what holds of a result, unless it is an error, may be weakened
-pub weaker : {A E : Type 0} (P Q : A → Type 0) → ((x : A) → P x → Q x) → (r : Result A E) →
-    IfOk r P → IfOk r Q
-weaker P Q f (Ok x) h = f x h
-weaker P Q f (Err e) h = tt
+fresh_is {T = T} l n p q r = grind (arith, common_steps)

@@ -3,6 +3,7 @@ use Rattle.std.proofs.Common.{◌≡◌, ℕ, zero, suc, ◌-◌, ◌<◌, ◌%�
 use Rattle.std.specs.List.{AllZip}
 use Rattle.std.proofs.lemmas.List.{length-map}
 use Rattle.std.proofs.lemmas.Nat.{mod_below}
+use Rattle.std.proofs.lemmas.Grind.{common_steps}
 use denote.RawPtr.{null_ptr}
 use mathlib.Core.List.{IsPrefix}
 use Rattle.fq_trim.specs.declared.step.Step.{Step}
@@ -65,8 +66,7 @@ module _ (steps : List Step) where
         ap (λ y. y ∷ (ds ++ rest.0)) (same ∙ h.0)
             ∙ ap (λ ys. done_of steps b ∷ ys) rest.1,
       )
-  answers_first (d ∷ ds) (b ∷ bs) (Stop why ∷ rs) cause p h =
-      let q : done d ∷ (map done ds ++ p.0) ≡ Stop why ∷ rs = p.1 in cc
+  answers_first (d ∷ ds) (b ∷ bs) (Stop why ∷ rs) cause p h = grind (arith, common_steps)
 
   -- if no reply is a stop, each block has its reply
   answers_all : (ds : List Done) (bs : List Numbered) (rs : List Reply) (cause : Option Cause) →
@@ -87,8 +87,7 @@ module _ (steps : List Step) where
   matched_one : (t : History Numbered) (c : Result (History Numbered) NotEnded)
       (f : History Reply) → Closed t c → Matched steps c f →
       (cause : Option Cause) × Answers steps t.items f.items cause
-  matched_one t (Ok e) f h m =
-      (m.0, subst (λ (l : History Numbered). Answers steps l.items f.items m.0) h m.1)
+  matched_one t (Ok e) f h m = grind (arith, common_steps)
   matched_one t (Err e) f h m = absurd m
 
   matched_at : (ts : List (History Numbered)) (cs : List (Result (History Numbered) NotEnded))

@@ -1,5 +1,5 @@
 -- A run whose threads could not all be started.
-use Rattle.std.proofs.Common.{◌≡◌, ◌↔◌, Option, Some, None, IfSome, false, IsTrue, Result, ℕ, ◌-◌, ◌<◌, List, [], ◌∷◌, ◌++◌, length, take, refl, sym, ap, ◌∙◌, subst, arith, ◌≤◌, ◌^◌, vec_len, ◌&&◌, Bool}
+use Rattle.std.proofs.Common.{◌≡◌, ◌↔◌, Option, Some, None, IfSome, false, IsTrue, Result, ℕ, ◌-◌, ◌<◌, List, [], ◌∷◌, ◌++◌, length, take, refl, sym, ap, ◌∙◌, subst, arith, ◌≤◌, ◌^◌, vec_len, ◌&&◌, Bool, IsSome}
 use Rattle.fq_lane.specs.History.{History}
 use Rattle.fq_lane.specs.declared.tx.NotEnded.{NotEnded}
 use Rattle.fq_text.specs.declared.memory.MemoryRefused.{MemoryRefused}
@@ -20,13 +20,12 @@ use Rattle.fq_run_core.specs.Endings.{Run, all_pairs, ends_whole, IsHandedBack, 
 use Rattle.fq_run_core.specs.Fates.{Unbroken}
 use Rattle.fq_run_core.specs.Outcomes.{rank}
 use Rattle.std.specs.Option.{option_map}
+use Rattle.std.proofs.lemmas.Grind.{common_steps}
 use Rattle.fq_run.specs.Threads.{IsReady, IsFresh, IsThreaded, run_from}
 use Rattle.fq_run.specs.declared.conclusion.Conclusion.{Conclusion}
 use Rattle.fq_pair.specs.Forms.{Form}
 use Rattle.fq_pair.specs.Walks.{SourceState, GoesOn}
 use Rattle.fq_run_core.specs.PairsRead.{fresh_source, feed_in}
-use Rattle.fq_run_core.proofs.OutletLemmas.{all_took_none, all_took_same}
-use Rattle.fq_run_core.proofs.TextLemmas.{no_text}
 use Rattle.fq_run_core.proofs.PassLemmas.{runs_refused}
 use Rattle.fq_run_core.proofs.RunLemmas.{run_every}
 use Rattle.fq_run_core.specs.declared.reading_end.ReadingEnd.TheVariants as reading
@@ -50,10 +49,6 @@ pub unread : {S : Type 0} (state : S → SourceState) (s : SourceState) (o : Opt
 unread state s None same = (tt, tt)
 unread state s (Some x) same = (ap (λ z. feed_in z.forward) same, ap (λ z. feed_in z.reverse) same)
 
-no_items : {T : Type 0} (xs : List T) → (0 < length xs → ⊥) → xs ≡ []
-no_items [] none = refl
-no_items (x ∷ xs) none = absurd (none (omega arith))
-
 -- a dealer whose reading has not stopped got no start item, and has not read
 pub idle : {S : Type 0} (state : S → SourceState) (c : Choices) (s old new : SourceState) (start
     start_left : History (Unit {0})) (to : List (History Numbered))
@@ -63,33 +58,17 @@ pub idle : {S : Type 0} (state : S → SourceState) (c : Choices) (s old new : S
     IfSome o (λ y. (y ≡ x) × (why ≡ None)) → IfSome o (λ y. state y ≡ s)
 idle state c s old new start start_left to closings why x None same is h unread = tt
 idle state c s old new start start_left to closings why x (Some y) same is h unread =
-    let none = no_items start_left.items (λ some. h.started some unread.1) in
-    ap state unread.0 ∙ is ∙ (h.idle none).1 ∙ same
+    grind (arith, common_steps)
 
 -- if the state of a feed is missing, so is the feed
 pub none_of : {A B : Type 0} (f : A → B) (a : Option A) → option_map f a ≡ None → a ≡ None
 none_of f None is = refl
 none_of f (Some x) is = absurd cc
 
--- an unchanged feed gave nothing
-gave_nothing : (n : ℕ) (xs : List ℕ) → take (n - n) xs ++ xs ≡ xs
-gave_nothing n xs = let e : n - n ≡ 0 = omega arith in rw e refl
-
 back_as_it_was : (old : FeedState) (left : Option FeedState) → IfSome left (λ x. x ≡ old) →
     IsHandedBack old left
 back_as_it_was old None same = tt
-back_as_it_was old (Some new) same =
-    let P : FeedState → Type 0 = λ x. IsHandedBack old (Some x) in
-    subst P (sym same) (
-      0,
-      omega arith,
-      record {
-        told = refl;
-        bytes =
-            λ tells. sym (gave_nothing (length old.to_come) old.to_come);
-        failures = omega arith;
-      },
-    )
+back_as_it_was old (Some new) same = grind (arith, common_steps)
 
 -- if a thread was refused, the outcome is no other
 apart : (run : Run) → run.outcome ≡ outcome.Spawn → (o : Outcome) → (rank o ≡ 1 → ⊥) →
@@ -108,11 +87,7 @@ module _ (c : Choices) (run : Run) (e : run.outcome ≡ outcome.Spawn) (none : r
 
   unwritten : OutletsTook run.outlets run.outlets_left
       (λ out. text_of out (texts_of c.steps []) ++ []) None
-  unwritten =
-      let P : OutletStates → Type 0 = λ o. OutletsTook run.outlets o
-      (λ out. text_of out (texts_of c.steps []) ++ []) None in
-      subst P (sym same.outlets) (all_took_same run.outlets run.outlets (λ out. []) _ None
-      (λ out. sym (nothing out)) (all_took_none run.outlets))
+  unwritten = grind (arith, common_steps)
 
   every : EveryEnding c run
   every = record {
@@ -196,13 +171,6 @@ refused form c f r f' r' before after counted failed lacked same also none flush
           sound' counted (none ∙ sym (ap (ended outcome.Memory) none));
     }
 
--- the feeds of the source, if it was handed back
-left_as : {S A : Type 0} (feed : S → A) (fs : A → FeedState) (side : S → FeedState) →
-    ((x : S) → fs (feed x) ≡ side x) → (o : Option S) (a : Option A) → a ≡ option_map feed o →
-    option_map side o ≡ option_map fs a
-left_as feed fs side same None a is = sym (ap (option_map fs) is)
-left_as feed fs side same (Some x) a is = ap Some (sym (same x)) ∙ sym (ap (option_map fs) is)
-
 -- what holds of a run over a source holds of the run over the feeds of that source
 pub closed : {S F G : Type 0} (state : S → SourceState) (fs : F → FeedState) (gs : G →
     FeedState) (forward_of : S → F) (reverse_of : S → G) →
@@ -232,37 +200,7 @@ pub closed : {S F G : Type 0} (state : S → SourceState) (fs : F → FeedState)
     }) u lacked
 closed state fs gs forward_of reverse_of first second form c s f r is before after e o counted f' r'
     u lacked outcome_is counts_are ended lacked_is left right {holds} t =
-    let R : SourceState → Outcome → Total → Option FeedState → Option FeedState → Run =
-    λ z x n p q. record {
-      form = z.form;
-      forward = feed_in z.forward;
-      reverse =
-          feed_in z.reverse;
-      outlets = before;
-      forward_left = p;
-      reverse_left = q;
-      outlets_left =
-          after;
-      outcome = x;
-      counts = n.counts;
-      tally = n.tally;
-    } in
-    let p = option_map (λ x. feed_in (state x).forward) e.source in
-    let q = option_map (λ x. feed_in (state x).reverse) e.source in
-    let fresh = fresh_source form c (fs f) (gs r) in
-    let same : R s e.outcome e.total p q ≡ R fresh o counted (option_map fs f') (option_map gs r') =
-    ap (λ z. R z e.outcome e.total p q) is
-    ∙ ap (λ x. R fresh x e.total p q) (sym outcome_is)
-    ∙ ap (λ n. R fresh o n p q) (sym counts_are)
-    ∙ ap (λ x. R fresh o counted x q) (left_as forward_of fs (λ x. feed_in (state x).forward) first
-    e.source f' left)
-    ∙ ap (λ x. R fresh o counted (option_map fs f') x)
-    (left_as reverse_of gs (λ x. feed_in (state x).reverse) second e.source r' right) in
-    subst (λ (v : Run). IsThreaded c holds v u lacked) same
-    (subst (λ (v : Option MemoryRefused). IsThreaded c holds (run_from state s before after e) u v)
-    (sym lacked_is)
-    (subst (λ (v : Option NotEnded). IsThreaded c holds (run_from state s before after e) v
-    e.refused) (sym ended) t))
+    grind (arith, common_steps)
 
 -- a dealer whose lanes are new, over a source that nothing was read from
 pub can_deal : {S : Type 0} (tallied : Bool) (workers : ℕ) (c : Choices) (s : SourceState)

@@ -1,6 +1,7 @@
 -- The tallies of all workers add up to the tally of all blocks.
 use Rattle.std.proofs.Common.{◌≡◌, ℕ, zero, suc, ◌+◌, ◌-◌, ◌<◌, Bool, true, false, ◌||◌, List, [], ◌∷◌, length, get_or, refl, sym, ap, ◌∙◌, arith, Option, Some, None, Result, Ok, Err, IfOk, IsOkAnd}
 use Rattle.std.specs.List.{AllZip, list_any}
+use Rattle.std.proofs.lemmas.Grind.{common_steps}
 use Rattle.fq_trim.specs.declared.step.Step.{Step}
 use Rattle.fq_lane.specs.History.{History, Name}
 use Rattle.fq_lane.specs.declared.tx.NotEnded.{NotEnded}
@@ -105,8 +106,7 @@ all_added : (steps : List Step) (n : ℕ) (bs : List Numbered) (k : ℕ) (ws : L
     tallies_from (Some (lanes_sum (alone steps) k n bs)) ws
     ≡ Some (lanes_sum (alone steps) n n bs)
 unfolding lanes_sum
-all_added steps n bs k [] have =
-    ap (λ (j : ℕ). let s : Option Tally = Some (lanes_sum (alone steps) j n bs) in s) have
+all_added steps n bs k [] have = grind (arith, common_steps)
 all_added steps n bs k (w ∷ ws) have =
     ap (λ (t : Option Tally). tallies_from t ws)
     (one_added (lanes_sum (alone steps) k n bs)
@@ -159,8 +159,7 @@ went_on steps m w f (Err e) a same gate memory = absurd same
 -- what came through a confirmed lane is what was sent through it
 took_sent : (t : History Numbered) (c : Result (History Numbered) NotEnded) (w : Worked) →
     Closed t c → IsOkAnd c (λ e. w.rx ≡ e) → w.rx.items ≡ t.items
-took_sent t (Ok e) w closed same = ap (λ (l : History Numbered). l.items) same
-    ∙ ap (λ (l : History Numbered). l.items) closed
+took_sent t (Ok e) w closed same = grind (arith, common_steps)
 took_sent t (Err e) w closed same = absurd same
 
 module _ (tallied : Bool) (steps : List Step) (holds : Bool) (n : ℕ) (bs : List Numbered) where

@@ -2,6 +2,7 @@
 use Rattle.std.proofs.Common.{◌≡◌, ℕ, ◌+◌, ◌<◌, ◌≤◌, ◌^◌, Option, Some, None, is_some, Result, List, [], ◌∷◌, ◌++◌, length, map, refl, sym, ap, ◌∙◌, subst, arith, append_assoc, length-append}
 use Rattle.std.specs.List.{AllZip}
 use Rattle.std.proofs.lemmas.List.{append-nil}
+use Rattle.std.proofs.lemmas.Grind.{common_steps}
 use mathlib.Core.List.{IsPrefix}
 use Rattle.fq_trim.specs.declared.step.Step.{Step}
 use Rattle.fq_lane.specs.History.{History}
@@ -41,7 +42,7 @@ use Rattle.fq_run_core.specs.Writing.{no_halt, Passes, Runs}
 use Rattle.fq_run.proofs.MatchLemmas.{Matched, answered, begun_before, begun_first, at_mark_all}
 use Rattle.fq_run_core.proofs.OutletLemmas.{all_took_same}
 use Rattle.fq_run_core.proofs.PassLemmas.{runs_passed}
-use Rattle.fq_run_core.proofs.TextLemmas.{no_text, text_then, some_pair, counts_added}
+use Rattle.fq_run_core.proofs.TextLemmas.{no_text, some_pair, counts_added}
 use Rattle.fq_run_core.proofs.TotalLemmas.{is_cut}
 
 joined_is : (bs : List Numbered) → join (map (λ (b : Numbered). b.pairs) bs) ≡ pairs_of bs
@@ -61,8 +62,7 @@ module _ (steps : List Step) where
   texts_in : (out : Out) (bs : List Numbered) →
       written_text out (answered steps bs) ≡ text_of out (texts_of steps (pairs_of bs))
   texts_in out [] = sym (no_text steps out)
-  texts_in out (b ∷ bs) = ap (λ text. text_of out (texts_of steps b.pairs) ++ text)
-      (texts_in out bs) ∙ sym (text_then steps b.pairs (pairs_of bs) out)
+  texts_in out (b ∷ bs) = grind (arith, common_steps, texts_in out bs)
 
   -- and so are the counts
   counts_in : (bs : List Numbered) (ms : List Mates) (total : Total) →

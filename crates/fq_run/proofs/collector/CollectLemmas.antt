@@ -2,6 +2,7 @@
 use Rattle.std.proofs.Common.{◌≡◌, ℕ, suc, ◌<◌, ◌%◌, Some, None, is_some, List, [], ◌∷◌, ◌++◌, length, map, refl, sym, ap, ◌∙◌, arith, subst, append_assoc, Bool}
 use Rattle.std.proofs.lemmas.Nat.{mod_below}
 use Rattle.std.proofs.lemmas.List.{append-nil, length-map, map-append}
+use Rattle.std.proofs.lemmas.Grind.{common_steps}
 use Rattle.fq_lane.specs.History.{History}
 use Rattle.fq_lane.specs.declared.taken.Taken.{Taken}
 use Rattle.fq_lane.specs.declared.taken.Taken.TheVariants.{Item, Closed}
@@ -16,7 +17,7 @@ use Rattle.fq_work.specs.declared.reply.Reply.{Reply}
 use Rattle.fq_work.specs.declared.reply.Reply.TheVariants.{Done as done, Stop}
 use Rattle.fq_run_core.specs.Devices.{OutletStates, AreHealthy, OutletsTook, part_at}
 use Rattle.fq_run_core.specs.Sending.{BreaksAt}
-use Rattle.fq_run.specs.Shares.{every, gather}
+use Rattle.fq_run.specs.Shares.{gather}
 use Rattle.fq_run.specs.lanes.Items.{lists_of, IsDealt, IsBegun}
 use Rattle.fq_run.specs.collector.Collecting.{written_text, counted_from, counted, before_stop, TookAll, IsHeard, HasStopped, HasBroken, Writes, failed_in, Collects}
 use Rattle.fq_run.specs.collector.Stops.{with_stop, stops_of, Drains}
@@ -36,8 +37,7 @@ use Rattle.fq_run.proofs.collector.TurnLemmas.{begun_gather, at_mark_gather}
 pub written_more : (out : Out) (ds : List Done) (d : Done) →
     written_text out (ds ++ d ∷ []) ≡ written_text out ds ++ text_of out d.texts
 written_more out [] d = append-nil (text_of out d.texts)
-written_more out (e ∷ ds) d = ap (λ xs. text_of out e.texts ++ xs) (written_more out ds d)
-    ∙ sym (append_assoc (text_of out e.texts) (written_text out ds) (text_of out d.texts))
+written_more out (e ∷ ds) d = grind (arith, common_steps, written_more out ds d)
 
 counted_from_more : (total : Total) (ds : List Done) (d : Done) →
     counted_from total (ds ++ d ∷ []) ≡ total_plus (counted_from total ds) d
@@ -105,20 +105,14 @@ hears_take r old new before after j lt t e h = e ∙ ap (heard_at r) h
 -- what is dealt out is begun
 begun_now : {T : Type 0} (w : ℕ) (xs : List T) (ls : List (History T)) → IsDealt w xs ls →
     IsBegun w xs ls
-begun_now w xs ls h = record {
-  lanes = h.lanes;
-  begins = λ j d lt. ([], append-nil (every j w xs) ∙ sym (h.items j d lt));
-}
+begun_now w xs ls h = grind (arith, common_steps)
 
 -- whose turn it is, what came and what was written
 at_turn : (tallied : Bool) (w : ℕ) (before now : OutletStates) (k : Collector)
     (h : Collects tallied w before now k) → k.phase ≡ Writing →
     (k.turn ≡ length (map done h.written) % w) × IsDealt w (map done h.written) k.replies.items
     × TookAll before now h.written
-at_turn tallied w before now k h at_k =
-    let p : Writes Writing w before now h.written k =
-    subst (λ p. Writes p w before now h.written k) at_k h.writes in
-    (p.0 ∙ ap (λ n. n % w) (sym (length-map h.written done)), p.1, p.2)
+at_turn tallied w before now k h at_k = grind (arith, common_steps)
 
 module _ (tallied : Bool) (w : ℕ) (before old now : OutletStates) (k l : Collector) where
   -- the reply in turn was written, and it is the next lane's turn

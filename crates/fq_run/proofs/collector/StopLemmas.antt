@@ -2,8 +2,8 @@
 use Rattle.std.proofs.Common.{◌≡◌, ℕ, zero, suc, ◌<◌, Bool, false, ◌||◌, None, List, [], ◌∷◌, ◌++◌, length, get_or, refl, sym, ap, ◌∙◌, arith}
 use Rattle.std.proofs.Math.Bool.{or_assoc, or_comm, or-false, or-true}
 use Rattle.std.proofs.Math.ListN.{set}
-use Rattle.std.proofs.lemmas.List.Folds.{list_any-append}
 use Rattle.std.specs.List.{list_any}
+use Rattle.std.proofs.lemmas.Grind.{common_steps}
 use Rattle.fq_lane.specs.History.{History}
 use Rattle.fq_lane.specs.declared.taken.Taken.{Taken}
 use Rattle.fq_lane.specs.declared.taken.Taken.TheVariants.{Item, Empty, Closed}
@@ -21,32 +21,20 @@ abbrev pub heard_at : Taken Reply → Halt → Halt
 heard_at (Item (Stop why)) halt = with_stop why halt
 heard_at _ halt = halt
 
-or_last : (a b c : Bool) → ((a || b) || c) ≡ ((a || c) || b)
-or_last a b c = or_assoc a b c ∙ ap (λ d. a || d) (or_comm b c) ∙ sym (or_assoc a c b)
-
 -- one more reply in one lane
 come_more : (why : Cause) (ls : List (History Reply)) (j : ℕ) (l : History Reply) (x : Reply) →
     j < length ls → l.items ≡ (get_or ls j l).items ++ x ∷ [] →
     has_come why (set ls j l) ≡ (has_come why ls || is_stop why x)
 come_more why [] j l x lt e = absurd (omega arith)
-come_more why (k ∷ ls) zero l x lt e =
-    let grown : list_any (is_stop why) l.items
-    ≡ (list_any (is_stop why) k.items || (is_stop why x || false)) =
-    ap (list_any (is_stop why)) e ∙ list_any-append (is_stop why) k.items (x ∷ []) in
-    ap (λ b. b || has_come why ls) (grown ∙ ap (λ b. list_any (is_stop why) k.items || b)
-    (or-false (is_stop why x))) ∙ or_last (list_any (is_stop why) k.items) (is_stop why x)
-    (has_come why ls)
-come_more why (k ∷ ls) (suc j) l x lt e =
-    ap (λ b. list_any (is_stop why) k.items || b) (come_more why ls j l x (omega arith) e)
-    ∙ sym (or_assoc (list_any (is_stop why) k.items) (has_come why ls) (is_stop why x))
+come_more why (k ∷ ls) zero l x lt e = grind (arith, common_steps)
+come_more why (k ∷ ls) (suc j) l x lt e = grind (arith, common_steps, come_more why ls j l x)
 
 -- nothing more in one lane
 come_same : (why : Cause) (ls : List (History Reply)) (j : ℕ) (l : History Reply) →
     l.items ≡ (get_or ls j l).items → has_come why (set ls j l) ≡ has_come why ls
 come_same why [] j l e = refl
 come_same why (k ∷ ls) zero l e = ap (λ is. list_any (is_stop why) is || has_come why ls) e
-come_same why (k ∷ ls) (suc j) l e = ap (λ b. list_any (is_stop why) k.items || b)
-    (come_same why ls j l e)
+come_same why (k ∷ ls) (suc j) l e = grind (arith, common_steps, come_same why ls j l e)
 
 same_halt : (a b c d : Bool) → a ≡ c → b ≡ d →
     (let x : Halt = record { gate = a; memory = refused_if b } in let y : Halt =
@@ -76,10 +64,7 @@ stops_taken (Item (done d)) old new j lt t =
     let more = come_taken _ old new j lt t in
     same_halt _ _ _ _ (more Gate ∙ or-false (has_come Gate old)) (more (Memory witness)
     ∙ or-false (has_come (Memory witness) old))
-stops_taken Empty old new j lt t =
-    let same = λ (why : Cause). ap (has_come why) t.becomes
-    ∙ come_same why old j t.history (ap (λ (l : History Reply). l.items) t.takes.1) in
-    same_halt _ _ _ _ (same Gate) (same (Memory witness))
+stops_taken Empty old new j lt t = grind (arith, common_steps)
 stops_taken Closed old new j lt t =
     let same = λ (why : Cause). ap (has_come why) t.becomes
     ∙ come_same why old j t.history (ap (λ (l : History Reply). l.items) t.takes) in

@@ -1,8 +1,8 @@
 -- What was written in turn is what is gathered.
 use Rattle.std.proofs.Common.{◌≡◌, false, ℕ, zero, suc, ◌+◌, ◌-◌, ◌<◌, ◌≤◌, ◌%◌, List, [], ◌∷◌, ◌++◌, length, get_or, refl, sym, ap, ◌∙◌, subst, arith, length-append, inl, inr}
-use Rattle.std.proofs.Math.Nat.{zero-mod}
 use Rattle.std.proofs.lemmas.Nat.{mod_below}
 use Rattle.std.proofs.lemmas.Bool.{cases_lt}
+use Rattle.std.proofs.lemmas.Grind.{common_steps}
 use denote.RawPtr.{null_ptr}
 use mathlib.Core.List.{IsPrefix}
 use Rattle.fq_lane.specs.History.{History}
@@ -88,10 +88,7 @@ module _ {T : Type 0} where
   -- the first list begins with the first member
   same_first : (n : ℕ) (x y : T) (xs l : List T) (ls : List (List T)) →
       Begins (suc n) (x ∷ xs) ((y ∷ l) ∷ ls) → y ≡ x
-  same_first n x y xs l ls h =
-      let p = h.begins 0 (omega arith) in
-      let q : x ∷ (every (suc n - 1) (suc n) xs ++ p.0) ≡ y ∷ l = p.1 in
-      cc
+  same_first n x y xs l ls h = grind (arith, common_steps)
 
   gathers : (n m : ℕ) (xs : List T) (ls : List (List T)) → length xs ≤ m → Turns (suc n) xs ls →
       gather_turns m ls ≡ xs
@@ -99,10 +96,7 @@ module _ {T : Type 0} where
   gathers n zero (x ∷ xs) ls le h = absurd (omega arith)
   gathers n (suc m) [] [] le h = refl
   gathers n (suc m) [] ([] ∷ ls) le h = refl
-  gathers n (suc m) [] ((x ∷ l) ∷ ls) le h =
-      let P : ℕ → Type 0 = λ i. get_or ((x ∷ l) ∷ ls) i [] ≡ every {T = T} i (suc n) [] in
-      let e : x ∷ l ≡ [] = subst P (zero-mod (suc n)) h.ends in
-      cc
+  gathers n (suc m) [] ((x ∷ l) ∷ ls) le h = grind (arith, common_steps)
   gathers n (suc m) (x ∷ xs) [] le h = let e = h.lists.lanes in absurd (omega arith)
   gathers n (suc m) (x ∷ xs) ([] ∷ ls) le h = let p = (h.lists.begins 0 (omega arith)).1 in cc
   gathers n (suc m) (x ∷ xs) ((y ∷ l) ∷ ls) le h =

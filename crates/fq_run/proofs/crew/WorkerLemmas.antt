@@ -1,44 +1,33 @@
 -- The new lanes of the workers, and what the workers hand back.
-use Rattle.std.proofs.Common.{◌≡◌, ℕ, zero, suc, ◌<◌, true, List, [], ◌∷◌, ◌++◌, length, get_or, refl, sym, ap, ◌∙◌, subst, arith, Option, Some, None, false, ◌||◌, IsTrue, ⊎_elim, Result, Ok, Err, IfOk, IsOkAnd, Bool}
+use Rattle.std.proofs.Common.{◌≡◌, ℕ, suc, true, List, [], ◌∷◌, length, refl, sym, ap, ◌∙◌, subst, arith, Option, Some, None, false, ◌||◌, IsTrue, Result, Ok, Err, IfOk, IsOkAnd, Bool}
 use Rattle.std.specs.List.{AllZip}
 use Rattle.std.specs.declared.thread.PromisedHandle.{PromisedHandle}
 use Rattle.fq_trim.specs.declared.step.Step.{Step}
-use Rattle.fq_lane.specs.History.{History, Name, with_mark}
+use Rattle.fq_lane.specs.History.{History, Name}
 use Rattle.fq_lane.specs.declared.tx.NotEnded.{NotEnded}
 use Rattle.fq_block.specs.Blocks.{Numbered}
 use Rattle.fq_work.specs.Replies.{Answers}
-use Rattle.fq_work.specs.Work.{pairs_of, with_items}
-use Rattle.fq_report_pairs.specs.declared.tally.Tally.{Tally}
-use Rattle.fq_report_pairs.specs.Results.{tally_if, tally_with}
-use Rattle.fq_report_pairs.proofs.ResultLemmas.{with_none}
+use Rattle.fq_work.specs.Work.{pairs_of}
+use Rattle.fq_report_pairs.specs.Results.{tally_if}
 use Rattle.fq_work.specs.declared.ends.WorkEnds.{WorkEnds}
 use Rattle.fq_work.specs.declared.ends.Worked.{Worked}
 use Rattle.fq_work.specs.declared.reply.Cause.{Cause}
 use Rattle.fq_work.specs.declared.reply.Cause.TheVariants.{Gate, Memory}
 use Rattle.fq_work.specs.declared.reply.Reply.TheVariants.{Done as done, Stop}
 use Rattle.std.specs.List.{list_any}
+use Rattle.std.proofs.lemmas.Grind.{common_steps}
 use Rattle.fq_run.specs.collector.Stops.{is_stop, has_come}
 use Rattle.fq_work.specs.declared.reply.Reply.{Reply}
-use Rattle.fq_run.specs.lanes.Laying.{fresh, Laid}
+use Rattle.fq_run.specs.lanes.Laying.{Laid}
 use Rattle.fq_run.specs.crew.Workers.{Seated, Joined}
 use Rattle.fq_run.specs.Confirming.{CanConfirm, Confirmed}
 use Rattle.fq_run.specs.dealer.Dealt.{Closed}
 use Rattle.fq_run.specs.Each.{Each3}
 use Rattle.fq_run.specs.lanes.Items.{names_of, IsDealt, AllClosed}
 use Rattle.fq_run.specs.declared.crew.job.Job.{Job}
-use Rattle.fq_run.proofs.EachLemmas.{weaker}
 use Rattle.fq_run.proofs.MatchLemmas.{Matched}
 
 -- New lanes.
-
--- one more lane without items
-dealt_more : {T : Type 0} (w : ℕ) (l : History T) (ls : List (History T)) → l.items ≡ [] →
-    IsDealt w [] ls → IsDealt (suc w) [] (l ∷ ls)
-dealt_more {T} w l ls none h = record { lanes = ap (λ n. suc n) h.lanes; items = at }
-  where
-    at : (j : ℕ) (d : History T) → j < suc w → (get_or (l ∷ ls) j d).items ≡ []
-    at zero d lt = none
-    at (suc j) d lt = h.items j d (omega arith)
 
 dealt_none : {T : Type 0} → IsDealt {T = T} 0 [] []
 dealt_none = record { lanes = refl; items = λ j d lt. absurd (omega arith) }
@@ -49,12 +38,7 @@ laid_dealt : (tallied : Bool) (ts : List (History Numbered)) (es : List WorkEnds
     Each3 (Laid tallied) ts es fs → IsDealt (length ts) [] ts × IsDealt (length ts) [] fs
 laid_dealt tallied [] [] [] h = (dealt_none, dealt_none)
 laid_dealt tallied (t ∷ ts) (e ∷ es) (f ∷ fs) h =
-    let l = h.0 in
-    let rest = laid_dealt tallied ts es fs h.1 in (
-      dealt_more (length ts) t ts (ap (λ (x : History Numbered). x.items) l.to_is) rest.0,
-      dealt_more
-          (length ts) f fs (ap (λ (x : History Reply). x.items) l.replies_are) rest.1,
-    )
+    grind (arith, common_steps, laid_dealt tallied ts es fs h.1)
 laid_dealt tallied [] [] (f ∷ fs) h = absurd h
 laid_dealt tallied [] (e ∷ es) fs h = absurd h
 laid_dealt tallied (t ∷ ts) [] fs h = absurd h
@@ -99,36 +83,7 @@ module _ (tallied : Bool) (steps : List Step) (holds : Bool) where
   answered : (t : History Numbered) (e : WorkEnds) (f : History Reply)
       (h : PromisedHandle Worked Job) (w : Worked) → Laid tallied t e f → Seated steps holds e h →
       Joined h w → Answered t.name f.name w
-  answered t e f h w l s joined =
-      let j = joined.0 in
-      let rx : h.promise.rx.value ≡ fresh t.name = s.rx ∙ l.rx in
-      let tx : h.promise.tx.value ≡ fresh f.name = s.tx ∙ l.tx in
-      let took = j.took in
-      let came : took ≡ w.rx.items = sym (ap (λ x. x.items) j.received
-      ∙ ap (λ (x : History Numbered). x.items ++ took) rx) in
-      record {
-        name = ap (λ x. x.name) j.received ∙ ap (λ (x : History Numbered). x.name) rx;
-        closed = ap (λ x. x.marked) j.received;
-        answers = weaker (λ x. x ≡ with_items h.promise.tx.value j.replies true)
-            (λ x. (x.name ≡ f.name) × Answers steps w.rx.items x.items w.cause)
-            (λ x q.
-            (let sent : x.items ≡ j.replies = ap (λ y. y.items) q
-            ∙ ap (λ (y : History Reply). y.items ++ j.replies) tx in
-            let P : List Step → Type 0 = λ s. Answers s took j.replies w.cause in
-            let a : Answers steps took j.replies w.cause = subst P s.steps_are j.answers in (
-              ap (λ y. y.name) q ∙ ap (λ (y : History Reply). y.name) tx,
-              subst (λ bs. Answers steps bs x.items w.cause) came
-                  (subst (λ rs. Answers steps took rs w.cause) (sym sent) a),
-            ))) w.closing j.sent;
-        gate = λ at. let some = s.asks in
-            ⊎_elim (λ never. absurd (omega (arith, some, never)))
-            (λ may. subst IsTrue s.holds_is may) (joined.1 at);
-        counted = λ none. j.counted none
-            ∙ ap (λ (b : List Step). tally_with b h.promise.tally.value (pairs_of took)) s.steps_are
-            ∙ ap (λ (t : Option Tally). tally_with steps t (pairs_of took)) (s.tally ∙ l.tally)
-            ∙ with_none tallied steps (pairs_of took)
-            ∙ ap (λ (bs : List Numbered). tally_if tallied steps (pairs_of bs)) came;
-      }
+  answered t e f h w l s joined = grind (arith, common_steps)
 
   -- each worker that was joined has answered the blocks that came through its lane
   pub all_answered : (ts : List (History Numbered)) (es : List WorkEnds) (fs : List (History Reply))
@@ -157,14 +112,7 @@ module _ (tallied : Bool) (steps : List Step) (holds : Bool) where
   can_confirm_one : (t : History Numbered) (c : Result (History Numbered) NotEnded) (w : Worked)
       (f : History Reply) → Closed t c → Answered t.name f.name w → f.marked ≡ true →
       CanConfirm c w f
-  can_confirm_one t c w f h a m = record {
-    blocks = weaker (λ e. e ≡ with_mark t) (λ e. e.name ≡ w.rx.name) (λ e q. ap (λ l. l.name) q
-        ∙ sym a.name) c h;
-    came = a.closed;
-    sent = weaker (λ e. (e.name ≡ f.name) × Answers steps w.rx.items e.items w.cause)
-        (λ e. e.name ≡ f.name) (λ e q. q.0) w.closing a.answers;
-    got = m;
-  }
+  can_confirm_one t c w f h a m = grind (arith, common_steps)
 
   -- if all lanes are closed and were taken to their marks, they can be confirmed
   pub can_confirm : (ts : List (History Numbered)) (cs : List (Result (History Numbered) NotEnded))
@@ -185,32 +133,13 @@ module _ (tallied : Bool) (steps : List Step) (holds : Bool) where
 
   -- After the lanes are confirmed.
 
-  matched_by : (n m : Name) (e r : History Numbered) (x f : History Reply) (cause : Option Cause) →
-      r ≡ e → f ≡ x → Answers steps r.items x.items cause →
-      Answers steps e.items f.items cause
-  matched_by n m e r x f cause rx same a =
-      subst (λ (l : History Numbered). Answers steps l.items f.items cause) rx
-      (subst (λ (l : History Reply). Answers steps r.items l.items cause) (sym same) a)
-
-  matched_one : (n m : Name) (c : Result (History Numbered) NotEnded) (w : Worked)
-      (f : History Reply) (replied : Result (History Reply) NotEnded) →
-      IfOk replied (λ e. (e.name ≡ m) × Answers steps w.rx.items e.items w.cause) →
-      IsOkAnd c (λ e. w.rx ≡ e) → IsOkAnd replied (λ e. f ≡ e) → Matched steps c f
-  matched_one n m (Ok e) w f (Ok x) a rx same =
-      (w.cause, matched_by n m e w.rx x f w.cause rx same a.1)
-  matched_one n m (Err e) w f replied a rx same = absurd rx
-  matched_one n m (Ok e) w f (Err x) a rx same = absurd same
-
   -- on confirmed lanes the replies that came are those to the blocks that were sent
   pub matched : (ns ms : List Name) (cs : List (Result (History Numbered) NotEnded))
       (ws : List Worked) (fs : List (History Reply)) → Each3 Answered ns ms ws →
       Each3 Confirmed cs ws fs → AllZip (Matched steps) cs fs
   matched [] [] [] [] [] a k = tt
-  matched (n ∷ ns) (m ∷ ms) (c ∷ cs) (w ∷ ws) (f ∷ fs) a k = (
-    let first = a.0 in matched_one n m c w f w.closing first.answers k.0.0 k.0.1,
-    matched ns ms
-        cs ws fs a.1 k.1,
-  )
+  matched (n ∷ ns) (m ∷ ms) (c ∷ cs) (w ∷ ws) (f ∷ fs) a k =
+      grind (arith, common_steps, matched ns ms cs ws fs a.1 k.1)
   matched [] [] [] [] (f ∷ fs) a k = absurd k
   matched [] [] (c ∷ cs) [] fs a k = absurd k
   matched [] [] cs (w ∷ ws) fs a k = absurd a
@@ -227,9 +156,7 @@ module _ (tallied : Bool) (steps : List Step) (holds : Bool) where
   stopped_so [] (r ∷ rs) cause a came = absurd a
   stopped_so (b ∷ bs) (done d ∷ rs) cause a came = stopped_so bs rs cause a.1 came
   stopped_so (b ∷ bs) (Stop Gate ∷ rs) cause a came = a.1
-  stopped_so (b ∷ bs) (Stop (Memory refused) ∷ rs) cause a came =
-      absurd (let none : list_any (is_stop Gate) rs ≡ false = ap (list_any (is_stop Gate)) a.0 in
-      let e = sym none ∙ came in cc)
+  stopped_so (b ∷ bs) (Stop (Memory refused) ∷ rs) cause a came = grind (arith, common_steps)
 
   shut_one : (n m : Name) (w : Worked) (f : History Reply)
       (replied : Result (History Reply) NotEnded) →

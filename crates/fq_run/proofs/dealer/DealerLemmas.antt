@@ -1,8 +1,9 @@
 -- Blocks that are filled and dealt out, one after another.
-use Rattle.std.proofs.Common.{◌≡◌, ℕ, suc, ◌+◌, ◌<◌, ◌≤◌, ◌^◌, ◌%◌, Option, Some, None, List, [], ◌∷◌, ◌++◌, length, map, get_or, refl, sym, ap, subst, ◌∙◌, arith, append_assoc, length-append}
+use Rattle.std.proofs.Common.{◌≡◌, ℕ, suc, ◌+◌, ◌<◌, ◌≤◌, ◌^◌, ◌%◌, Option, Some, None, List, [], ◌∷◌, ◌++◌, length, map, get_or, refl, sym, ap, subst, ◌∙◌, arith, length-append}
 use Rattle.std.proofs.Math.ListN.{set}
 use Rattle.std.proofs.Math.Nat.{zero-mod}
 use Rattle.std.proofs.lemmas.List.{append-nil, map-append, set-get_or}
+use Rattle.std.proofs.lemmas.Grind.{common_steps}
 use Rattle.fq_text.specs.declared.encoding.Encoding.{Encoding}
 use Rattle.fq_text.specs.declared.memory.MemoryRefused.{MemoryRefused}
 use Rattle.fq_lane.specs.History.{History}
@@ -20,7 +21,6 @@ use Rattle.fq_run_core.specs.PairsRead.{Reads}
 use Rattle.fq_run.proofs.DealLemmas.{turn_more}
 use Rattle.fq_run.proofs.lanes.LaneLemmas.{dealt_offer, names_written}
 use Rattle.fq_run_core.proofs.WalkLemmas.{walks_none, walks_then, reads_then}
-use Rattle.fq_pair.proofs.SideLemmas.{walked_records}
 
 -- Cutting.
 
@@ -53,8 +53,7 @@ module _ {T : Type 0} where
   join_then : (pieces : List (List T)) (last : List T) →
       join (pieces ++ last ∷ []) ≡ join pieces ++ last
   join_then [] last = append-nil last
-  join_then (piece ∷ pieces) last = ap (λ xs. piece ++ xs) (join_then pieces last)
-      ∙ sym (append_assoc piece (join pieces) last)
+  join_then (piece ∷ pieces) last = grind (arith, common_steps, join_then pieces last)
 
 abbrev pairs_of : List Numbered → List (List Mates)
 pairs_of blocks = map (λ (b : Numbered). b.pairs) blocks
@@ -124,10 +123,7 @@ module _ (c : Choices) (old : SourceState) (to : List (History Numbered)) where
       (sends : SendsFilled block lane after) where
     mates_few : old.forward.given ≡ 0 → old.most_bytes ≤ 2 ^ 60 →
         length (d.mates ++ block.pairs) ≤ 2 ^ 60
-    mates_few fresh bound =
-        let mates = d.mates in let w = d.walks in let s = w.same in let records =
-        walked_records old now d.mates w in let bytes = s.most_bytes in let within = f.within in
-        omega (arith, length-append mates block.pairs)
+    mates_few fresh bound = grind (arith, common_steps)
 
     joined_more : join (pairs_of (d.blocks ++ block ∷ [])) ≡ d.mates ++ block.pairs
     joined_more = ap join (pairs_then d.blocks block) ∙ join_then (pairs_of d.blocks) block.pairs
@@ -181,8 +177,7 @@ module _ (c : Choices) (old : SourceState) (to : List (History Numbered)) where
     cut_last : (blocks : List Numbered) (mates : List Mates) → join (pairs_of blocks) ≡ mates →
         AreEven c.block_pairs (pairs_of blocks) → AreNumbered c.encoding 0 blocks →
         AreBlocks c mates blocks
-    cut_last blocks mates joined even numbered =
-        record { cut = record { joined = joined; even = even }; numbered = numbered }
+    cut_last blocks mates joined even numbered = grind (arith, common_steps)
 
     last_some : old.forward.given ≡ 0 → old.most_bytes ≤ 2 ^ 60 → 0 < length block.pairs →
         DealsOut c old next to (set lanes turn after) why
