@@ -82,9 +82,6 @@ module _ (c : Choices) (run : Run) (e : run.outcome ≡ outcome.Spawn) (none : r
     (untallied : run.tally ≡ None) (same : IsUntouched run)
     (both : (run.forward_left ≡ None) ↔ (run.reverse_left ≡ None)) (holds : Bool)
     (lacked : MemoryRefused) where
-  nothing : (out : Out) → text_of out (texts_of c.steps []) ++ [] ≡ []
-  nothing out = let q = no_text c.steps out in rw q refl
-
   unwritten : OutletsTook run.outlets run.outlets_left
       (λ out. text_of out (texts_of c.steps []) ++ []) None
   unwritten = grind (arith, common_steps)
