@@ -1,5 +1,5 @@
 -- The texts of a list of pairs are those of its front followed by those of its rest.
-use Rattle.std.proofs.Common.{arith, ◌≡◌, ◌+◌, List, ◌++◌}
+use Rattle.std.proofs.Common.{arith, ◌≡◌, List, ◌++◌}
 use Rattle.std.proofs.lemmas.Grind.{common_steps}
 use Rattle.fq_trim.specs.declared.step.Step.{Step}
 use Rattle.fq_pair.specs.Mates.{Mates}

@@ -1,12 +1,11 @@
 -- One side of a source of pairs, in three states one after the other, and the records of pairs.
-use Rattle.std.proofs.Common.{◌≡◌, ℕ, ◌+◌, ◌-◌, ◌≤◌, ◌⊎◌, inl, inr, ⊎_elim, true, false, IsTrue, List, [], ◌++◌, length, ap, sym, ◌∙◌, arith, append_assoc}
+use Rattle.std.proofs.Common.{◌≡◌, ℕ, ◌+◌, ◌≤◌, ◌⊎◌, inl, inr, ⊎_elim, true, false, IsTrue, List, [], ◌++◌, length, ap, sym, ◌∙◌, arith, append_assoc}
 use Rattle.std.proofs.lemmas.List.{append_cancel_left, append_cancel_right, length-append, length-take-le, nil_from_length}
 use Rattle.std.proofs.lemmas.Grind.{common_steps}
 use Rattle.fq_text.specs.Devices.{FeedState}
 use Rattle.fq_text.specs.Lines.{lines, is_whole, whole_part}
 use Rattle.fq_text.proofs.LineLemmas.{lines-append, whole-append}
 use Rattle.fq_pair.specs.Mates.{Mates}
-use Rattle.fq_pair.specs.Forms.{Form, records_of_pairs}
 use Rattle.fq_text.specs.Sources.{Sourced, rest_in, IsTail, KeepsCount}
 use Rattle.fq_pair.specs.Walks.{SideState, side_state, SourceState, rest, fed, came, Draws, Uses, Walks}
 use Rattle.fq_pair.proofs.WholeLemmas.{behind_whole, whole_split, is_whole-whole_part, whole_part-whole}

@@ -1,5 +1,5 @@
 -- The forward mate is kept, and the current record is its reverse mate.
-use Rattle.std.proofs.Common.{◌≡◌, true, false, Some, Ok, refl, is_some, arith, rules, ℕ, ◌-◌, List, length, ap, ◌∙◌, ◌+◌, ◌++◌, suc, Bool, IsTrue, sym, ◌⊎◌, [], ⊎_elim, ◌*◌, Err, ◌≤◌, add-one, subst}
+use Rattle.std.proofs.Common.{◌≡◌, true, false, Some, Ok, refl, is_some, arith, rules, ℕ, List, length, ap, ◌∙◌, ◌+◌, ◌++◌, suc, Bool, IsTrue, sym, ◌⊎◌, [], ⊎_elim, ◌*◌, Err, ◌≤◌, add-one, subst}
 use Rattle.std.proofs.lemmas.Grind.{common_steps}
 use Rattle.std.proofs.lemmas.Result.{err_from_is_err_and}
 use Rattle.std.proofs.lemmas.List.{length-append}
