@@ -16,7 +16,7 @@ use Rattle.fq_pair.specs.Interleaved.{side_after}
 use Rattle.fq_pair.specs.Forms.{Form, InterleavedText, pairs_in}
 use Rattle.fq_pair.specs.Pairing.{Pairs}
 use Rattle.fq_pair.specs.PairSources.{is_cut, is_cut_short, if_cut}
-use Rattle.fq_pair.specs.Outputs.{texts_of, text_of}
+use Rattle.fq_pair.specs.Outputs.{texts_of, text_of, counts_of}
 use Rattle.fq_run_core.specs.declared.outcome.Outcome.{Outcome}
 use Rattle.fq_run_core.specs.declared.outcome.Outcome.TheVariants as outcome
 use Rattle.fq_report_pairs.specs.Results.{tally_if}

@@ -73,3 +73,10 @@ none_at true b t steps ms is = absurd cc
 pub kept_at : (e : Bool) (t : Option Tally) → e ≡ true → cond e t None ≡ t
 kept_at true t is = refl
 kept_at false t is = absurd cc
+
+-- at the end of the input, or at a fault in it, the tally is that of the pairs
+pub whole_at : (e b : Bool) (t : Option Tally) (steps : List Step) (ms : List Mates) → e ≡ true →
+    t ≡ tally_if b steps ms → cond e t None ≡ tally_if (b && e) steps ms
+whole_at false b t steps ms is same = absurd cc
+whole_at true true t steps ms is same = same
+whole_at true false t steps ms is same = same
