@@ -80,7 +80,7 @@ is_interleaved_part = record { forward_whole = refl; reverse_whole = refl; sound
 
 both_interleaved_pairs :
     pairs_in InterleavedText true Sanger 0 (interleaved ++ interleaved_rest)
-        (interleaved ++ interleaved_rest)
+    (interleaved ++ interleaved_rest)
     ≡ record { mates = first ++ rest; fault = None }
 both_interleaved_pairs = refl
 

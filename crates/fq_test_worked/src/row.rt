@@ -136,7 +136,9 @@ fn rows_of<'a>(alloc: Global, row: Row<'a>, table: &[&'a str]) -> Result<Vec<Row
 
 // Splits a line of a table into its cells.
 fn cells_of<'a>(alloc: Global, line: &'a str) -> Result<Vec<&'a str>> {
-    let inner = line.strip_prefix("| ").and_then(|rest| rest.strip_suffix(" |"));
+    let inner = line
+        .strip_prefix("| ")
+        .and_then(|rest| rest.strip_suffix(" |"));
     let inner = inner.context(format_args!("no line of a table: {line:?}"))?;
     Ok(inner.split(" | ").collect(alloc)?)
 }
