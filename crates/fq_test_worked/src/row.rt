@@ -14,8 +14,8 @@
 //!
 //! Rows with the same keys may stand in a table. Its first line `| KEY | KEY |` has the keys, and
 //! each other one `| TEXT | TEXT |` is a row, with these texts and the other lines of the block. A
-//! key `<NAME>` gives the text that name, for its row. If no key is `row`, a line is the name of its
-//! row. Spaces around a text don't count.
+//! key `<NAME>` gives the text that name, for its row. If no key is `row`, the line is its name.
+//! Spaces around a text don't count.
 
 use crate::names::{Names, decode};
 use anyhow::{Context, Result, bail};
