@@ -207,7 +207,8 @@ pub fn no_zeros() -> Result<Vec<u8>, MemoryRefused> {
 }
 RT
 
-# Where the program's crates write an error of std as a value: once in each of these files.
+# Where the program's crates write an error of std as a value: once in each of these files. The disk
+# in memory isn't a part of the program.
 error='([a-z_]+::)*(AllocError|OutOfMemory)'
 value="(\\(|= |=> |\\| |\\{ |return )$error([^:A-Za-z_]|\$)|^ +$error\$"
 written=$(grep -rcE "$value" --include='*.rt' crates/*/src |
@@ -215,6 +216,7 @@ written=$(grep -rcE "$value" --include='*.rt' crates/*/src |
 wanted='crates/fq_app/src/answering.rt:1
 crates/fq_app/src/example.rt:1
 crates/fq_app_files/src/reporting.rt:1
+crates/fq_files/src/memory_disk.rt:1
 crates/fq_prog/src/main.rt:1
 crates/fq_run_core/src/refused.rt:1'
 [ "$written" = "$wanted" ] || fail "errors of std are written as values in: $written"

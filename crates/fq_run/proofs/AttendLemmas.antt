@@ -1,8 +1,7 @@
 -- What a run guarantees if all its threads were started.
-use Rattle.std.proofs.Common.{◌≡◌, ◌<◌, ◌≤◌, ℕ, Bool, true, IsTrue, Option, Some, None, Result, Ok, Err, IfOk, IsOkAnd, List, length, refl, sym, ap, ◌∙◌, subst, arith}
+use Rattle.std.proofs.Common.{◌≡◌, ◌<◌, ◌≤◌, ℕ, Bool, true, false, IsTrue, Option, Some, None, Result, Ok, Err, IfOk, IsOkAnd, List, length, refl, sym, ap, ◌∙◌, subst, arith}
 use Rattle.std.specs.List.{AllZip}
-use Rattle.std.specs.Option.{option_map}
-use Rattle.std.proofs.lemmas.Grind.{common_steps}
+use Rattle.std.specs.Option.{option_map, IfSome}
 use Rattle.fq_lane.specs.History.{History, with_mark}
 use Rattle.fq_lane.specs.declared.tx.NotEnded.{NotEnded}
 use Rattle.fq_block.specs.Blocks.{Numbered}
@@ -31,14 +30,30 @@ use Rattle.fq_report_pairs.specs.Results.{tally_if}
 use Rattle.fq_work.specs.Work.{pairs_of}
 use Rattle.fq_run.proofs.MatchLemmas.{Matched}
 use Rattle.fq_run.proofs.StartLemmas.{of_one}
+use Rattle.fq_run_core.specs.declared.halt.Halt.{Halt}
+use Rattle.fq_run_core.specs.declared.reading_end.ReadingEnd.{ReadingEnd}
+use Rattle.fq_run_core.specs.declared.outcome.Outcome.{Outcome}
+use Rattle.fq_run_core.proofs.VerdictLemmas.{Verdict, IsRefused, WantsMemory, FailedAt, CannotRead, HasNoEnd, HasFault, IsOver, verdict}
 use Rattle.fq_run_core.proofs.RunLemmas.{run_rank, run_every, run_whole}
 use Rattle.fq_run.proofs.ThreadLemmas.{runs_threaded}
+
+-- the outcome is `Gate` only if a worker stopped at the gate
+gate_judged : (halt : Halt) (why : Option ReadingEnd) (failed : Option Out) (o : Outcome) →
+    Verdict halt why failed o → o ≡ outcome.Gate → halt.gate ≡ true
+gate_judged halt why failed o (IsRefused gate is) at = gate
+gate_judged halt why failed o (WantsMemory is) at = absurd (let e = sym is ∙ at in cc)
+gate_judged halt why failed o (FailedAt out a b c is) at = absurd (let e = sym is ∙ at in cc)
+gate_judged halt why failed o (CannotRead side a b c is) at = absurd (let e = sym is ∙ at in cc)
+gate_judged halt why failed o (HasNoEnd side a b c is) at = absurd (let e = sym is ∙ at in cc)
+gate_judged halt why failed o (HasFault fault a b c d is) at = absurd (let e = sym is ∙ at in cc)
+gate_judged halt why failed o (IsOver a b c is) at = absurd (let e = sym is ∙ at in cc)
 
 -- a confirmed start lane carried the item that was put
 started_some : (r : Result (History (Unit {0})) NotEnded) (s start : History (Unit {0})) →
     0 < length s.items → IfOk r (λ e. e ≡ with_mark s) → IsOkAnd r (λ e. start ≡ e) →
     0 < length start.items
-started_some (Ok e) s start some ended same = grind (arith, common_steps)
+started_some (Ok e) s start some ended same =
+    subst (λ (l : History (Unit {0})). 0 < length l.items) (sym (same ∙ ended)) some
 started_some (Err e) s start some ended same = absurd same
 
 module _ {S : Type 0} (state : S → SourceState) (c : Choices) (s : SourceState)
@@ -86,7 +101,11 @@ module _ {S : Type 0} (state : S → SourceState) (c : Choices) (s : SourceState
     }
 
     run_is : run_as (Some (forward_of dealt.source)) (Some (reverse_of dealt.source)) ≡ the_run
-    run_is = grind (arith, common_steps)
+    run_is =
+        ap (λ x. run_as x (Some (reverse_of dealt.source)))
+        (sym (ap (option_map forward_of) ends.source))
+        ∙ ap (λ y. run_as (option_map forward_of ending.source) y)
+        (sym (ap (option_map reverse_of) ends.source))
 
     -- the counts of what was written, and the tallies of all workers
     abbrev total : Total
@@ -123,7 +142,9 @@ module _ {S : Type 0} (state : S → SourceState) (c : Choices) (s : SourceState
           ends_so (record { forward = told.forward; reverse = told.reverse }))
 
       gate_is : ending.outcome ≡ outcome.Gate → IsTrue holds
-      gate_is at = grind (arith, common_steps)
+      gate_is at = shut (ends.workers none) (gate_judged k.halt dealt.why failed _
+          (verdict k.halt dealt.why failed (λ going sound. absurd (read_on going)))
+          (sym (ends.outcome_is none) ∙ at))
 
     forward_there : option_map forward_of ending.source ≡ None → ⊥
     forward_there gone = let e = sym (ap (option_map forward_of) ends.source) ∙ gone in cc

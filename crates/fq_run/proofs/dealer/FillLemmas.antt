@@ -1,8 +1,7 @@
 -- A block that is being filled.
-use Rattle.std.proofs.Common.{◌≡◌, ℕ, ◌+◌, ◌<◌, ◌≤◌, Option, Some, None, [], ◌∷◌, ◌++◌, length, sym, subst, arith}
+use Rattle.std.proofs.Common.{◌≡◌, ℕ, ◌+◌, ◌<◌, ◌≤◌, Option, Some, None, [], ◌∷◌, ◌++◌, length, refl, sym, ap, subst, ◌∙◌, arith}
 use Rattle.std.proofs.lemmas.List.{length-append}
 use Rattle.fq_text.specs.declared.memory.MemoryRefused.{MemoryRefused}
-use Rattle.std.proofs.lemmas.Grind.{common_steps}
 use Rattle.fq_block.specs.Blocks.{Numbered}
 use Rattle.fq_pair.specs.declared.fault.InputFault.{InputFault}
 use Rattle.fq_pair.specs.Mates.{Mates}
@@ -11,7 +10,8 @@ use Rattle.fq_run_core.specs.declared.reading_end.ReadingEnd.TheVariants as read
 use Rattle.fq_run.specs.dealer.Filling.{Fills}
 use Rattle.fq_pair.specs.Walks.{SourceState, Walks, MeetsEnd, MeetsFault, GoesOn}
 use Rattle.fq_run_core.specs.PairsRead.{Reads}
-use Rattle.fq_run_core.proofs.WalkLemmas.{walks_then}
+use Rattle.fq_run_core.proofs.WalkLemmas.{walks_none, walks_then}
+use Rattle.fq_pair.proofs.SideLemmas.{walked_records}
 
 -- `n` pairs were read, and are in the block
 pub record Filled (old now : SourceState) (empty block : Numbered) (n : ℕ) : Type 0 where
@@ -33,7 +33,13 @@ pushed block m = record {
 -- an empty block is one into which no pair was read yet
 pub filled_none : (s : SourceState) (block : Numbered) → GoesOn s → block.pairs ≡ [] →
     Filled s s block block 0
-filled_none s block goes clear = grind (arith, common_steps)
+filled_none s block goes clear = record {
+  number = refl;
+  encoding = refl;
+  len = ap length clear;
+  walks = subst (Walks s s) (sym clear) (walks_none s goes.last);
+  goes = goes;
+}
 
 -- one more pair was read, and is in the block
 pub filled_more : (old now next : SourceState) (empty block then : Numbered) (n : ℕ) (m : Mates) →
@@ -54,7 +60,16 @@ filled_more old now next empty block then n m f w within is =
 -- the block is in the encoding of the source that fills it
 pub filled_encoding : (old now : SourceState) (empty block : Numbered) (n : ℕ) →
     Filled old now empty block n → empty.encoding ≡ old.encoding → block.encoding ≡ now.encoding
-filled_encoding old now empty block n f is = grind (arith, common_steps)
+filled_encoding old now empty block n f is = let w = f.walks in let s = w.same in f.encoding ∙ is
+    ∙ sym s.encoding
+
+-- the pairs of the block are no more than the bytes that may come
+filled_within : (old now : SourceState) (empty block : Numbered) (n : ℕ) →
+    Filled old now empty block n → old.forward.given + length block.pairs ≤ old.most_bytes
+filled_within old now empty block n f =
+    let w = f.walks in let s = w.same in let g = f.goes in let given =
+    walked_records old now block.pairs w in let most = s.most_bytes in let within = g.within in
+    omega arith
 
 module _ (old now : SourceState) (empty block : Numbered) (n most : ℕ)
     (f : Filled old now empty block n) where
@@ -116,4 +131,5 @@ module _ (old now : SourceState) (empty block : Numbered) (n most : ℕ)
 pub fills_as : (old new : SourceState) (most most' : ℕ) (empty block : Numbered)
     (why : Option ReadingEnd) → most' ≡ most → Fills old new most' empty block why →
     Fills old new most empty block why
-fills_as old new most most' empty block why same f = grind (arith, common_steps)
+fills_as old new most most' empty block why same f = let P : ℕ → Type 0 =
+    λ n. Fills old new n empty block why in subst P same f
