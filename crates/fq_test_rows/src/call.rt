@@ -10,7 +10,7 @@
 //! Answers: `status`, `out`, `err`, `printed` (which of the two were written to), and each file by
 //! its name.
 
-ghost use Rattle.std.specs.Prelude.{true, false, None};
+ghost use Rattle.std.specs.Prelude.{◌≡◌, true, false, None};
 ghost use Rattle.fq_files.specs.States.{TellsWhy};
 
 use anyhow::{Context, Result};
