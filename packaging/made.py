@@ -332,7 +332,7 @@ def reason_table(rows: str) -> Iterator[str]:
     """The reasons for the faults of a record, by kind, as worked rows have them. Of reasons that
     differ in a number only, it is the first."""
     kinds: Dict[str, Dict[str, str]] = {}
-    for kind, reason in re.findall(r'(?m)^= err: input: \w+ record \d+: (\w+): \w: (.*)\\n$', rows):
+    for kind, reason in re.findall(r'(?m)(?:^= err:|\|) input: \w+ record \d+: (\w+): \w: (.*?)\\n(?:$| \|)', rows):
         if kind != 'MateMissing':
             kinds.setdefault(kind, {}).setdefault(re.sub(r'\d+$', '', reason), f'`{reason}`')
     yield from ['', '| Kind | Reason |', '|---|---|']

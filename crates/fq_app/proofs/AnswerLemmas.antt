@@ -1,9 +1,11 @@
 -- What is reported for a refusal, and for a run that was made.
 use Rattle.std.proofs.Common.{◌≡◌, ◌≢◌, ◌⊎◌, ◌∙◌, ℕ, suc, Bool, true, false, IsTrue, IsSome, Option, Some, None, [], ◌∷◌, List, codes, length, inl, inr, ⊎_elim, refl, sym, ap, subst, arith}
 use Rattle.std.proofs.lemmas.List.{take_all}
+use Rattle.std.specs.Option.{option_map}
 use Rattle.std.specs.List.{All}
 use Rattle.fq_files.specs.Holding.{Holding, IsUnchanged}
-use Rattle.fq_files.specs.States.{FilesState, MayRefuse, MaySay}
+use Rattle.fq_files.specs.States.{FilesState, MaySay}
+use Rattle.fq_app_files.specs.Opening.{MayRefuseName}
 use Rattle.fq_pair.specs.declared.counts.Counts.{Counts}
 use Rattle.fq_pair.specs.declared.side.Side.{Side}
 use Rattle.clap.specs.Kinds.{IsAmong, Kinds}
@@ -20,7 +22,7 @@ use Rattle.fq_app_words.specs.Requests.{Asking, input_name}
 use Rattle.fq_app_words.specs.Words.{AskedFor, asked_pairs, pairs_asked}
 use Rattle.fq_app_words.specs.declared.words.Asked.{Asked}
 use Rattle.fq_app_files.specs.Judging.{wrong_with}
-use Rattle.fq_app_files.specs.Trimming.{IsNoOutput, TrimsFiles}
+use Rattle.fq_app_files.specs.Trimming.{filed, IsNoOutput, TrimsFiles}
 use Rattle.fq_app_files.specs.Leaving.{RefusalLeaves, ReportLeft, HoldFirstPairs, AreLeft, TellsInputs}
 use Rattle.fq_app_files.proofs.EndingLemmas.{done_is_whole, ends_so}
 use Rattle.fq_app_files.proofs.LeavingLemmas.{refusal_untrimmed, report_untrimmed, whole_first}
@@ -62,9 +64,9 @@ refuses_fails a refusal err status (inr lacks) =
 -- refused memory has its line, or that of a report
 untold_line : (a : Asking) (old new : FilesState) (out err : Device) (status : ℕ) (text : List ℕ) →
     status ≡ 5 → (text ≡ memory_line) ⊎ (text ≡ report_memory_line a) → TookText err text
-    → (IsTrue old.tells → AreLeft a old.bytes new.bytes)
-    → (IsTrue old.tells → (name : List ℕ) → a.report ≡ Some name →
-    IsReportUncut a old.bytes new.bytes name) →
+    → (IsTrue old.tells → AreLeft (filed old a) old.bytes new.bytes)
+    → (IsTrue old.tells → (name : List ℕ) → (filed old a).report ≡ Some name →
+    IsReportUncut a (filed old a) old.bytes new.bytes name) →
     TookLine a old new out err status
 untold_line a old new out err status text five is took left report_left = record {
   text = text;
@@ -79,18 +81,18 @@ untold_line a old new out err status text five is took left report_left = record
 
 -- refused memory has its line
 lacks_line : (a : Asking) (old new : FilesState) (out err : Device) (status : ℕ) →
-    LacksMemory err status → (IsTrue old.tells → AreLeft a old.bytes new.bytes)
-    → (IsTrue old.tells → (name : List ℕ) → a.report ≡ Some name →
-    IsReportUncut a old.bytes new.bytes name) →
+    LacksMemory err status → (IsTrue old.tells → AreLeft (filed old a) old.bytes new.bytes)
+    → (IsTrue old.tells → (name : List ℕ) → (filed old a).report ≡ Some name →
+    IsReportUncut a (filed old a) old.bytes new.bytes name) →
     TookLine a old new out err status
 lacks_line a old new out err status lacks left report_left =
     untold_line a old new out err status memory_line lacks.status_is (inl refl) lacks.told left
     report_left
 
 -- a whole report is a first part of itself
-whole_begins : (a : Asking) (old new : Holding) (name : List ℕ) → HoldsReport a old new name →
-    IsReportLeft a old new name
-whole_begins a old new name holds = inr (record {
+whole_begins : (a f : Asking) (old new : Holding) (name : List ℕ) →
+    HoldsReport a f old new name → IsReportLeft a f old new name
+whole_begins a f old new name holds = inr (record {
   text = holds.text;
   count = length holds.text;
   is =
@@ -99,17 +101,17 @@ whole_begins a old new name holds = inr (record {
       ∙ ap Some (sym (take_all (length holds.text) holds.text (omega arith)));
 })
 
-uncut_left : (a : Asking) (old new : Holding) (name : List ℕ) → IsReportUncut a old new name →
-    IsReportLeft a old new name
-uncut_left a old new name uncut = ⊎_elim (λ kept. inl kept)
-    (λ holds. whole_begins a old new name holds) uncut
+uncut_left : (a f : Asking) (old new : Holding) (name : List ℕ) →
+    IsReportUncut a f old new name → IsReportLeft a f old new name
+uncut_left a f old new name uncut = ⊎_elim (λ kept. inl kept)
+    (λ holds. whole_begins a f old new name holds) uncut
 
 -- a request that ends because memory was refused
 pub lacks_answer : (a : Asking) (old new : FilesState) (out err : Device) (status : ℕ) →
-    LacksMemory err status → (IsTrue old.tells → AreLeft a old.bytes new.bytes)
-    → (IsTrue old.tells → (name : List ℕ) → a.report ≡ Some name →
-    IsReportUncut a old.bytes new.bytes name)
-    → (IsTrue old.tells → (side : Side) → old.bytes (input_name a.inputs side) ≡ None →
+    LacksMemory err status → (IsTrue old.tells → AreLeft (filed old a) old.bytes new.bytes)
+    → (IsTrue old.tells → (name : List ℕ) → (filed old a).report ≡ Some name →
+    IsReportUncut a (filed old a) old.bytes new.bytes name)
+    → (IsTrue old.tells → (side : Side) → old.bytes (input_name (filed old a).inputs side) ≡ None →
     IsUnchanged old.bytes new.bytes) →
     PairsAnswered a old new out err status
 lacks_answer a old new out err status lacks left report_left unopened =
@@ -125,7 +127,7 @@ lacks_answer a old new out err status lacks left report_left unopened =
       reported =
           λ ends. absurd (⊎_elim (λ zero. omega (arith, zero, five)) (λ three. omega
           (arith, three, five)) ends);
-      report_left = λ tells name named. uncut_left a old.bytes new.bytes name
+      report_left = λ tells name named. uncut_left a (filed old a) old.bytes new.bytes name
           (report_left tells name named);
       unopened = unopened;
     }
@@ -139,10 +141,11 @@ pub refused_answer : (a : Asking) (old new : FilesState) (out err : Device) (sta
     (refusal : Refusal) → Refuses a refusal err status
     → ((other : Refusal) → wrong_with a ≡ Some other → refusal ≡ other) →
     (wrong_with a ≡ None → status_of refusal ≢ 2)
-    → (IsTrue old.tells → RefusalLeaves a refusal old.bytes new.bytes)
-    → (IsTrue old.tells → (name : List ℕ) → a.report ≡ Some name → IsNoOutput a name →
+    → (IsTrue old.tells → RefusalLeaves (filed old a) refusal old.bytes new.bytes)
+    → (IsTrue old.tells → (name : List ℕ) → (filed old a).report ≡ Some name →
+    IsNoOutput (filed old a) name →
     ReportLeft refusal (old.bytes name) (new.bytes name))
-    → (IsTrue old.tells → (side : Side) → old.bytes (input_name a.inputs side) ≡ None →
+    → (IsTrue old.tells → (side : Side) → old.bytes (input_name (filed old a).inputs side) ≡ None →
     IsUnchanged old.bytes new.bytes) →
     PairsAnswered a old new out err status
 refused_answer a old new out err status refusal (inl refuses) first late left report_left
@@ -169,20 +172,23 @@ refused_answer a old new out err status refusal (inl refuses) first late left re
         took = refuses.1;
       };
       known = λ one. own.1 (sym is ∙ one);
-      left = λ other tells. inl (refusal_untrimmed a refusal old.bytes new.bytes (left tells));
+      left = λ other tells.
+          inl (refusal_untrimmed (filed old a) refusal old.bytes new.bytes (left tells));
       reported =
           λ ends. absurd (⊎_elim (λ zero. own.0 (sym is ∙ zero)) (λ three. own.2 (sym is ∙ three))
           ends);
       report_left =
-          λ tells name named. inl (report_untrimmed a refusal old.bytes new.bytes (left tells)
+          λ tells name named. inl (report_untrimmed (filed old a) refusal old.bytes new.bytes
+          (left tells)
           (report_left tells) name named);
       unopened = unopened;
     }
 refused_answer a old new out err status refusal (inr lacks) first late left report_left
     unopened =
     lacks_answer a old new out err status lacks
-    (λ tells. inl (refusal_untrimmed a refusal old.bytes new.bytes (left tells)))
-    (λ tells name named. inl (report_untrimmed a refusal old.bytes new.bytes (left tells)
+    (λ tells. inl (refusal_untrimmed (filed old a) refusal old.bytes new.bytes (left tells)))
+    (λ tells name named. inl (report_untrimmed (filed old a) refusal old.bytes new.bytes
+    (left tells)
     (report_left tells) name named)) unopened
 
 -- What is known of a run that was made: what its outputs hold, whether its report was due, and what
@@ -193,21 +199,23 @@ pub record IsRun (a : Asking) (old new : FilesState) (outcome : Outcome)
   pub no_gate : outcome ≢ Gate
   -- if it ended whole, all pairs were trimmed
   pub trims : IsTrue old.tells → IsTrue (ends_whole outcome) →
-      TrimsFiles a old.bytes new.bytes outcome counts
+      TrimsFiles (filed old a) old.bytes new.bytes outcome counts
   -- unless a lane was not confirmed, the outputs hold the texts of first pairs
-  pub ended : IsTrue old.tells → outcome ≢ Lane → HoldFirstPairs a old.bytes new.bytes outcome
+  pub ended : IsTrue old.tells → outcome ≢ Lane →
+      HoldFirstPairs (filed old a) old.bytes new.bytes outcome
   -- a report is due only if the status is 0 or 3
   pub due : reported ≢ report.NotDue → (outcome_status outcome ≡ 0) ⊎ (outcome_status outcome ≡ 3)
   -- if one was asked for and not due, the status is neither 0 nor 3
   pub not_due : reported ≡ report.NotDue → IsSome a.report →
       (outcome_status outcome ≢ 0) × (outcome_status outcome ≢ 3)
   -- what the file of the report holds depends on what became of the report
-  pub held : IsTrue old.tells → (name : List ℕ) → a.report ≡ Some name →
-      ReportHeld reported a old.bytes new.bytes name
+  pub held : IsTrue old.tells → (name : List ℕ) → (filed old a).report ≡ Some name →
+      ReportHeld reported a (filed old a) old.bytes new.bytes name
 
-is_wanted : (o : Option (List ℕ)) (name : List ℕ) → o ≡ Some name → IsSome o
-is_wanted (Some n) name e = refl
-is_wanted None name e = absurd cc
+is_wanted : (leads : List ℕ → List ℕ) (o : Option (List ℕ)) (file : List ℕ) →
+    option_map leads o ≡ Some file → IsSome o
+is_wanted leads (Some n) file e = refl
+is_wanted leads None file e = absurd cc
 
 -- an option that is not `None` holds a value
 pub some_in : {X : Type 0} (o : Option X) → IsSome o → (x : X) × (o ≡ Some x)
@@ -223,9 +231,9 @@ not_lane outcome is lane =
 module _ (a : Asking) (old new : FilesState) (outcome : Outcome) (counts : Counts)
     (reported : Reported) (run : IsRun a old new outcome counts reported) where
   held_as : (is : Reported) → reported ≡ is → IsTrue old.tells → (name : List ℕ) →
-      a.report ≡ Some name → ReportHeld is a old.bytes new.bytes name
+      (filed old a).report ≡ Some name → ReportHeld is a (filed old a) old.bytes new.bytes name
   held_as is same tells name named =
-      let P : Reported → Type 0 = λ r. ReportHeld r a old.bytes new.bytes name in
+      let P : Reported → Type 0 = λ r. ReportHeld r a (filed old a) old.bytes new.bytes name in
       subst P same (run.held tells name named)
 
   due_as : (is : Reported) → reported ≡ is → is ≢ report.NotDue →
@@ -235,32 +243,34 @@ module _ (a : Asking) (old new : FilesState) (outcome : Outcome) (counts : Count
   -- if the run ended whole, a report that was written or not due holds the defined text
   pub is_held : (reported ≡ report.NotDue) ⊎ (reported ≡ report.Written) →
       (outcome_status outcome ≡ 0) ⊎ (outcome_status outcome ≡ 3)
-      → IsTrue old.tells → (name : List ℕ) → a.report ≡ Some name →
-      HoldsReport a old.bytes new.bytes name
+      → IsTrue old.tells → (name : List ℕ) → (filed old a).report ≡ Some name →
+      HoldsReport a (filed old a) old.bytes new.bytes name
   is_held (inl none) ends tells name named =
-      let other = run.not_due none (is_wanted a.report name named) in
+      let other = run.not_due none (is_wanted old.leads a.report name named) in
       absurd (⊎_elim other.0 other.1 ends)
   is_held (inr written) ends tells name named = held_as report.Written written tells name named
 
   -- if the run did not end whole, the report is empty
   is_empty : (reported ≡ report.NotDue) ⊎ (reported ≡ report.Written) → IsTrue old.tells →
       outcome_status outcome ≢ 0 → outcome_status outcome ≢ 3
-      → (name : List ℕ) → a.report ≡ Some name → new.bytes name ≡ Some []
+      → (name : List ℕ) → (filed old a).report ≡ Some name → new.bytes name ≡ Some []
   is_empty (inl none) tells some other name named = held_as report.NotDue none tells name named
   is_empty (inr written) tells some other name named =
       absurd (⊎_elim some other (due_as report.Written written (λ e. absurd (cc e))))
 
   -- a report that was written or not due is whole or empty
   is_uncut : (reported ≡ report.NotDue) ⊎ (reported ≡ report.Written) → IsTrue old.tells →
-      (name : List ℕ) → a.report ≡ Some name → IsReportUncut a old.bytes new.bytes name
+      (name : List ℕ) → (filed old a).report ≡ Some name →
+      IsReportUncut a (filed old a) old.bytes new.bytes name
   is_uncut (inl none) tells name named = inl (inr (held_as report.NotDue none tells name named))
   is_uncut (inr written) tells name named = inr (held_as report.Written written tells name named)
 
   -- the line of a run that was made
   pub told_line : (seen : EndingSeen)
-      (said : IsTrue old.tells → IsSaid a.inputs old.bytes (settled outcome) seen)
-      (its_error : IsItsError a old.may_say outcome seen)
-      (error : Option SystemError) (report_error : IsReportError a old.may_say reported error)
+      (said : IsTrue old.tells → IsSaid old.looks (filed old a) old.bytes (settled outcome) seen)
+      (its_error : IsItsError (filed old a) old.may_say outcome seen)
+      (error : Option SystemError)
+      (report_error : IsReportError (filed old a) old.may_say reported error)
       (out err : Device) (status : ℕ) →
       Tells a seen outcome reported error out err status → TookLine a old new out err status
   told_line seen said its_error error report_error out err status (inl (which, inl ending)) =
@@ -310,7 +320,7 @@ module _ (a : Asking) (old new : FilesState) (outcome : Outcome) (counts : Count
       ⊎ (text ≡ report_line a None) → IsUnreported a old new status text =
       λ text is. record {
         said = why.0;
-        its_error = subst (MaySay old.may_say a.report) why.1 report_error.may;
+        its_error = subst (MaySay old.may_say (filed old a).report) why.1 report_error.may;
         status_is = failed.1;
         text_is = is;
         left = λ tells. (
@@ -349,8 +359,8 @@ four_not_five n four five = absurd (omega (arith, four, five))
 -- what was refused
 pub refused_device : (a : Asking) (old : FilesState)
     (err : Device) (status : ℕ) (refusal : Refusal) → Refuses a refusal err status
-    → (IsTrue old.tells → TellsInputs a.inputs refusal old) →
-    IsRefusable a (MayRefuse old) refusal → status ≡ 4 →
+    → (IsTrue old.tells → TellsInputs (filed old a).inputs refusal old) →
+    IsRefusable a (MayRefuseName a.inputs (filed old a).inputs old) refusal → status ≡ 4 →
     NamesRefused a old err
 refused_device a old err status refusal (inl refuses_so) inputs refused four =
     record {
@@ -372,10 +382,11 @@ four_not_lane outcome four lane = let six : outcome_status outcome ≡ 6 = ap ou
 pub failed_device : (a : Asking) (old new : FilesState)
     (out err : Device) (status : ℕ) (seen : EndingSeen) (outcome : Outcome)
     (reported : Reported) (error : Option SystemError) →
-    IsItsError a old.may_say outcome seen → IsReportError a old.may_say reported error →
-    (outcome ≢ Lane → HasFailed a old new outcome) →
+    IsItsError (filed old a) old.may_say outcome seen →
+    IsReportError (filed old a) old.may_say reported error →
+    (outcome ≢ Lane → HasFailed (filed old a) old new outcome) →
     (IsTrue old.tells → settled outcome ≡ outcome) →
-    (reported ≡ report.Failed → ReportFailed a new)
+    (reported ≡ report.Failed → ReportFailed (filed old a) new)
     → Tells a seen outcome reported error out err status → status ≡ 4 →
     NamesDevice a old new out err
 failed_device a old new out err status seen outcome reported error its_error report_error fails
@@ -404,7 +415,7 @@ failed_device a old new out err status seen outcome reported error its_error rep
       said = why.0;
       told = subst (λ (told : Option SystemError). TookReportLine a told err) why.1 unwritten.2;
       has_failed = report_fails unwritten.0;
-      its_error = subst (MaySay old.may_say a.report) why.1 report_error.may;
+      its_error = subst (MaySay old.may_say (filed old a).report) why.1 report_error.may;
     })))
 failed_device a old new out err status seen outcome reported error its_error report_error fails
     as_it_is report_fails (inr (inr lacks)) four =
@@ -416,21 +427,21 @@ pub not_failed : (reported : Reported) → (reported ≡ report.NotDue) ⊎ (rep
 not_failed reported which = grind arith
 
 -- what a run leaves in the file of the report
-pub is_left : (a : Asking) (old new : Holding) (name : List ℕ) (reported : Reported) →
-    ReportHeld reported a old new name → IsReportLeft a old new name
-is_left a old new name report.NotDue empty = inl (inr empty)
-is_left a old new name report.Written holds = whole_begins a old new name holds
-is_left a old new name report.Failed begins = inr begins
-is_left a old new name (report.OutOfMemory lacked) empty = inl (inr empty)
+pub is_left : (a f : Asking) (old new : Holding) (name : List ℕ) (reported : Reported) →
+    ReportHeld reported a f old new name → IsReportLeft a f old new name
+is_left a f old new name report.NotDue empty = inl (inr empty)
+is_left a f old new name report.Written holds = whole_begins a f old new name holds
+is_left a f old new name report.Failed begins = inr begins
+is_left a f old new name (report.OutOfMemory lacked) empty = inl (inr empty)
 
 -- what the line of a run says about the files
 fits_left : (a : Asking) (old new : FilesState) (out : Device) (status : ℕ)
     (text : List ℕ) → (IsRefusal a old new status text ⊎ IsEnding a old new status text)
     ⊎ (IsUnprinted a old new out status text
     ⊎ (IsUntold a old new status text ⊎ IsUnreported a old new status text)) →
-    status ≢ 6 → IsTrue old.tells → AreLeft a old.bytes new.bytes
+    status ≢ 6 → IsTrue old.tells → AreLeft (filed old a) old.bytes new.bytes
 fits_left a old new out status text (inl (inl refusal)) other tells =
-    inl (refusal_untrimmed a refusal.why old.bytes new.bytes (refusal.left tells))
+    inl (refusal_untrimmed (filed old a) refusal.why old.bytes new.bytes (refusal.left tells))
 fits_left a old new out status text (inl (inr ending)) other tells =
     inr (
       ending.outcome,
@@ -439,11 +450,11 @@ fits_left a old new out status text (inl (inr ending)) other tells =
     )
 fits_left a old new out status text (inr (inl unprinted)) other tells =
     let all = unprinted.left tells in
-    inr (all.0, whole_first a old.bytes new.bytes all.0 all.1 all.3)
+    inr (all.0, whole_first (filed old a) old.bytes new.bytes all.0 all.1 all.3)
 fits_left a old new out status text (inr (inr (inl untold))) other tells = untold.left tells
 fits_left a old new out status text (inr (inr (inr unreported))) other tells =
     let all = unreported.left tells in
-    inr (all.0, whole_first a old.bytes new.bytes all.0 all.1 all.2)
+    inr (all.0, whole_first (filed old a) old.bytes new.bytes all.0 all.1 all.2)
 
 zero_or : (n : ℕ) → (n ≡ 0) ⊎ (n ≢ 0)
 zero_or n = grind arith
@@ -451,12 +462,15 @@ zero_or n = grind arith
 -- what a call leaves in the files, at every status except that of an unconfirmed lane
 pub left_so : (a : Asking) (old new : FilesState) (out err : Device) (status : ℕ)
     → ((status ≡ 0) ⊎ (status ≡ 3) → IsTrue old.tells →
-    EndsWhole a old.bytes new.bytes out err status) →
+    EndsWhole a old new out err status) →
     (status ≢ 0 → TookLine a old new out err status)
-    → status ≢ 6 → IsTrue old.tells → AreLeft a old.bytes new.bytes
+    → status ≢ 6 → IsTrue old.tells → AreLeft (filed old a) old.bytes new.bytes
 left_so a old new out err status whole line other tells = ⊎_elim
     (λ zero. let ends = whole (inl zero) tells in
-    inr (ends.outcome, whole_first a old.bytes new.bytes ends.outcome ends.counts ends.trims))
+    inr (
+      ends.outcome,
+      whole_first (filed old a) old.bytes new.bytes ends.outcome ends.counts ends.trims,
+    ))
     (λ some. let took = line some in fits_left a old new out status took.text took.fits other
     tells)
     (zero_or status)

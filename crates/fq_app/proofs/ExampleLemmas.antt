@@ -1,5 +1,5 @@
 -- What a run on the example's inputs writes.
-use Rattle.std.proofs.Common.{◌≡◌, ◌∙◌, ℕ, IsTrue, IfSome, MatchOption, Some, None, Option, List, [], ◌++◌, ap, refl, sym, append_assoc}
+use Rattle.std.proofs.Common.{◌≡◌, ◌∙◌, ℕ, IsTrue, IsSome, IfSome, MatchOption, Some, None, Option, List, [], ◌++◌, ap, refl, sym, append_assoc}
 use Rattle.fq_pair.specs.declared.out.Out.{Out}
 use Rattle.fq_pair.specs.Pairing.{pairs}
 use Rattle.fq_pair.specs.Outputs.{texts_of, text_of, counts_of}
@@ -30,7 +30,7 @@ module _ (choices : Choices) (forward reverse : List ℕ) (choices_are : choices
       (choices_are i).encoding 0 (forward_is i) (reverse_is i)).mates)
 
 -- an empty outlet that took a text has that text
-pub took_all : (old new : OutletState) (text wanted : List ℕ) → old.taken ≡ [] → IsTrue old.tells →
+pub took_all : (old new : OutletState) (text wanted : List ℕ) → old.taken ≡ [] → IsSome old.file →
     TookText old new text 0 → text ≡ wanted → new.taken ≡ wanted
 took_all old new text wanted empty tells took is = took.bytes tells
     ∙ (ap (λ t. t ++ text) empty ∙ is)
@@ -64,7 +64,7 @@ all_healthy o fp fu rp ru log = record {
 
 -- an empty outlet that took a text holds that text
 pub log_took : {A : Type 0} (state : A → OutletState) (old new : Option A) (text left : List ℕ) →
-    IsThere state old → ((a : A) → IsTrue (state a).tells) →
+    IsThere state old → ((a : A) → IsSome (state a).file) →
     Took (option_map state old) (option_map state new) text 0 →
     option_map (λ a. (state a).taken) new ≡ Some left → left ≡ text
 log_took state (Some o) (Some a) text left there tells took is = sym (same_bytes _ _ is)

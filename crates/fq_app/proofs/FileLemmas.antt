@@ -12,9 +12,10 @@ use Rattle.fq_run_core.specs.declared.outcome.Outcome.TheVariants.{Input}
 use Rattle.fq_run_core.specs.Endings.{AreFirst, trimmed_outcome}
 use Rattle.fq_app_files.specs.Faults.{outcome_status}
 use Rattle.fq_law_in_step.specs.InStep.{IsPairIn, AreInStep}
-use Rattle.fq_app_files.specs.Trimming.{pairs_of}
+use Rattle.fq_app_files.specs.Trimming.{filed, pairs_of}
 use Rattle.fq_app_files.specs.Leaving.{AreLeft, AreUntrimmed}
 use Rattle.fq_files.specs.Holding.{Holding}
+use Rattle.fq_files.specs.States.{FilesState}
 use Rattle.fq_app_words.specs.Requests.{Asking}
 use Rattle.fq_app.specs.Answers.{Device, EndsWhole}
 use Rattle.fq_app.specs.FilesInStep.{FilesAreInStep, FilesAreInStepUpTo}
@@ -46,8 +47,9 @@ complete None done = refl
 complete (Some fault) done = absurd (faulty fault done)
 
 -- the files that a whole run has left are in step
-pub whole_files : (a : Asking) (old new : Holding) (out err : Device) (status : ℕ) →
-    EndsWhole a old new out err status → FilesAreInStep a old new out status
+pub whole_files : (a : Asking) (old new : FilesState) (out err : Device) (status : ℕ) →
+    EndsWhole a old new out err status →
+    FilesAreInStep (filed old a) old.bytes new.bytes out status
 whole_files a old new out err status ends =
     let trims = ends.trims in
     let c = trims.choices in

@@ -1,12 +1,13 @@
 -- How a call of the program ends.
-use Rattle.std.specs.Prelude.{◌≡◌, ◌≢◌, ◌⊎◌, ℕ, ◌<◌, Bool, IsTrue, IsSome, Option, Some, None, List, [], ◌++◌, codes, length, take}
+use Rattle.std.specs.Prelude.{◌≡◌, ◌≢◌, ◌⊎◌, ℕ, ◌<◌, Bool, IsTrue, IsSome, is_some, Option, Some, None, List, [], ◌++◌, codes, length, take}
 use Rattle.std.specs.List.{All}
 use Rattle.fq_text.specs.Devices.{OutletState}
 use Rattle.fq_text.specs.Written.{line}
 use Rattle.fq_text.specs.declared.memory.MemoryRefused.{MemoryRefused}
 use Rattle.fq_text.specs.declared.seen.SystemError.{SystemError}
 use Rattle.fq_files.specs.Holding.{Holding, IsUnchanged}
-use Rattle.fq_files.specs.States.{FilesState, MayRefuse, MaySay}
+use Rattle.fq_files.specs.States.{FilesState, MaySay}
+use Rattle.fq_app_files.specs.Opening.{MayRefuseName}
 use Rattle.fq_pair.specs.declared.counts.Counts.{Counts}
 use Rattle.fq_pair.specs.declared.side.Side.{Side}
 use Rattle.fq_pair.specs.Summaries.{summary_of}
@@ -21,7 +22,7 @@ use Rattle.fq_app_files.specs.Judging.{wrong_with}
 use Rattle.fq_app_files.specs.Refusals.{status_of, IsRefusable}
 use Rattle.fq_app_files.specs.Faults.{memory_words, settled, outcome_status, outcome_line}
 use Rattle.fq_app_reasons.specs.Lines.{line_of, ending_line, report_line, report_memory_line}
-use Rattle.fq_app_files.specs.Trimming.{IsNoOutput, TrimsFiles}
+use Rattle.fq_app_files.specs.Trimming.{filed, IsNoOutput, TrimsFiles}
 use Rattle.fq_app_files.specs.Leaving.{RefusalLeaves, ReportLeft, HoldFirstPairs, AreLeft, TellsInputs}
 use Rattle.fq_app_files.specs.Completing.{HasFailed, ReportFailed}
 use Rattle.fq_app_files.specs.Reporting.{HoldsReport, BeginsReport}
@@ -40,7 +41,7 @@ pub record Device : Type 0 where
 
 abbrev pub device_of : {D : Type 0} → (D → OutletState) → D → D → Device
 device_of state old new = record {
-  tells = (state old).tells;
+  tells = is_some (state old).file;
   before = (state old).taken;
   after = (state new).taken;
   failures = (state new).failures;
@@ -64,12 +65,13 @@ pub record TookPart (d : Device) (text : List ℕ) : Type 0 where
 -- or a fault in them. The summary of their counts went to standard output. The line of the outcome,
 -- which has this status, went to standard error. Its reason is what the input that it names looks
 -- like.
-pub record EndsWhole (a : Asking) (old new : Holding) (out err : Device) (status : ℕ) : Type 0 where
+pub record EndsWhole (a : Asking) (old new : FilesState) (out err : Device) (status : ℕ) :
+    Type 0 where
   pub outcome : Outcome
   pub counts : Counts
   pub seen : EndingSeen
-  pub trims : TrimsFiles a old new outcome counts
-  pub said : IsSaid a.inputs old (settled outcome) seen
+  pub trims : TrimsFiles (filed old a) old.bytes new.bytes outcome counts
+  pub said : IsSaid old.looks (filed old a) old.bytes (settled outcome) seen
   pub status_is : outcome_status outcome ≡ status
   pub printed : TookPart out (summary_of counts)
   pub told : TookText err (ending_line a seen outcome)
@@ -104,9 +106,9 @@ pub record IsRefusal (a : Asking)
   pub why : Refusal
   pub status_is : status_of why ≡ status
   pub text_is : line_of a why ≡ text
-  pub left : IsTrue old.tells → RefusalLeaves a why old.bytes new.bytes
-  pub report_left : IsTrue old.tells → (name : List ℕ) → a.report ≡ Some name →
-      IsNoOutput a name → ReportLeft why (old.bytes name) (new.bytes name)
+  pub left : IsTrue old.tells → RefusalLeaves (filed old a) why old.bytes new.bytes
+  pub report_left : IsTrue old.tells → (file : List ℕ) → (filed old a).report ≡ Some file →
+      IsNoOutput (filed old a) file → ReportLeft why (old.bytes file) (new.bytes file)
 
 -- an outcome of the run, which no gate ended, has this status and this line, whose reason is what
 -- the device can say that the outcome names
@@ -117,12 +119,14 @@ pub record IsEnding (a : Asking)
   pub status_is : outcome_status outcome ≡ status
   pub text_is : ending_line a seen outcome ≡ text
   pub no_gate : outcome ≢ Gate
-  pub said : IsTrue old.tells → IsSaid a.inputs old.bytes (settled outcome) seen
-  pub its_error : IsItsError a old.may_say outcome seen
-  pub left : IsTrue old.tells → outcome ≢ Lane → HoldFirstPairs a old.bytes new.bytes outcome
+  pub said : IsTrue old.tells →
+      IsSaid old.looks (filed old a) old.bytes (settled outcome) seen
+  pub its_error : IsItsError (filed old a) old.may_say outcome seen
+  pub left : IsTrue old.tells → outcome ≢ Lane →
+      HoldFirstPairs (filed old a) old.bytes new.bytes outcome
   pub unreported : IsTrue old.tells → outcome_status outcome ≢ 0 →
-      outcome_status outcome ≢ 3 → (name : List ℕ) → a.report ≡ Some name →
-      new.bytes name ≡ Some []
+      outcome_status outcome ≢ 3 → (file : List ℕ) → (filed old a).report ≡ Some file →
+      new.bytes file ≡ Some []
 
 -- all pairs were trimmed, and standard output failed, so the summary was not printed
 pub record IsUnprinted (a : Asking)
@@ -132,36 +136,37 @@ pub record IsUnprinted (a : Asking)
   pub text_is : text ≡ print_line
   pub left : IsTrue old.tells →
       (outcome : Outcome) × (counts : Counts)
-      × (outcome_status outcome ≡ 0) × TrimsFiles a old.bytes new.bytes outcome counts
-  pub reported : IsTrue old.tells → (name : List ℕ) →
-      a.report ≡ Some name → HoldsReport a old.bytes new.bytes name
+      × (outcome_status outcome ≡ 0) × TrimsFiles (filed old a) old.bytes new.bytes outcome counts
+  pub reported : IsTrue old.tells → (file : List ℕ) → (filed old a).report ≡ Some file →
+      HoldsReport a (filed old a) old.bytes new.bytes file
 
 -- all pairs were trimmed, up to the end of the inputs or a fault in them, and the report could not
 -- be written, for what its device said
 pub record IsUnreported (a : Asking)
     (old new : FilesState) (status : ℕ) (text : List ℕ) : Type 0 where
   pub said : SystemError
-  pub its_error : MaySay old.may_say a.report (Some said)
+  pub its_error : MaySay old.may_say (filed old a).report (Some said)
   pub status_is : status ≡ 4
   pub text_is : (text ≡ report_line a (Some (Some said))) ⊎ (text ≡ report_line a None)
   pub left : IsTrue old.tells →
-      (outcome : Outcome) × (counts : Counts) × TrimsFiles a old.bytes new.bytes outcome counts
-  pub begun : IsTrue old.tells → (name : List ℕ) →
-      a.report ≡ Some name → BeginsReport a old.bytes new.bytes name
+      (outcome : Outcome) × (counts : Counts)
+      × TrimsFiles (filed old a) old.bytes new.bytes outcome counts
+  pub begun : IsTrue old.tells → (file : List ℕ) → (filed old a).report ≡ Some file →
+      BeginsReport a (filed old a) old.bytes new.bytes file
 
 -- the file of the report holds what it held before, or nothing, or the whole report
-abbrev pub IsReportUncut : Asking → Holding → Holding → List ℕ → Type 0
-IsReportUncut a old new name = ((new name ≡ old name) ⊎ (new name ≡ Some []))
-    ⊎ HoldsReport a old new name
+abbrev pub IsReportUncut : Asking → Asking → Holding → Holding → List ℕ → Type 0
+IsReportUncut a f old new file = ((new file ≡ old file) ⊎ (new file ≡ Some []))
+    ⊎ HoldsReport a f old new file
 
 -- memory for the line, the summary or the report was refused
 pub record IsUntold (a : Asking)
     (old new : FilesState) (status : ℕ) (text : List ℕ) : Type 0 where
   pub status_is : status ≡ 5
   pub text_is : (text ≡ memory_line) ⊎ (text ≡ report_memory_line a)
-  pub left : IsTrue old.tells → AreLeft a old.bytes new.bytes
-  pub report_left : IsTrue old.tells →
-      (name : List ℕ) → a.report ≡ Some name → IsReportUncut a old.bytes new.bytes name
+  pub left : IsTrue old.tells → AreLeft (filed old a) old.bytes new.bytes
+  pub report_left : IsTrue old.tells → (file : List ℕ) → (filed old a).report ≡ Some file →
+      IsReportUncut a (filed old a) old.bytes new.bytes file
 
 -- standard error took the line of one of these, which has this status, and nothing else
 pub record TookLine (a : Asking)
@@ -203,13 +208,13 @@ Refuses a why err status = ((status ≡ status_of why) × TookText err (line_of 
 -- At status 4 standard error names what was refused or has failed.
 
 -- a file was refused: an input that does not exist or is an input already, or an output or a report
--- under a name that may be refused or led to an input before the call
+-- that may be refused, was an input before the call, or is one of the call under another name
 pub record NamesRefused (a : Asking) (old : FilesState) (err : Device) : Type 0 where
   pub why : Refusal
   pub status_is : status_of why ≡ 4
   pub told : TookText err (line_of a why)
-  pub inputs : IsTrue old.tells → TellsInputs a.inputs why old
-  pub refused : IsRefusable a (MayRefuse old) why
+  pub inputs : IsTrue old.tells → TellsInputs (filed old a).inputs why old
+  pub refused : IsRefusable a (MayRefuseName a.inputs (filed old a).inputs old) why
 
 -- a device of that name has failed, and may say the error that is told, or the input of that side
 -- is endless
@@ -218,16 +223,16 @@ pub record NamesFailed (a : Asking) (old new : FilesState) (err : Device) : Type
   pub seen : EndingSeen
   pub status_is : outcome_status outcome ≡ 4
   pub told : TookText err (ending_line a seen outcome)
-  pub has_failed : HasFailed a old new outcome
-  pub its_error : IsItsError a old.may_say outcome seen
+  pub has_failed : HasFailed (filed old a) old new outcome
+  pub its_error : IsItsError (filed old a) old.may_say outcome seen
   pub as_it_is : IsTrue old.tells → settled outcome ≡ outcome
 
 -- the report's device has failed, and may say the error that is told
 pub record NamesReport (a : Asking) (old new : FilesState) (err : Device) : Type 0 where
   pub said : SystemError
   pub told : TookReportLine a (Some said) err
-  pub has_failed : ReportFailed a new
-  pub its_error : MaySay old.may_say a.report (Some said)
+  pub has_failed : ReportFailed (filed old a) new
+  pub its_error : MaySay old.may_say (filed old a).report (Some said)
 
 -- the line names a refused file, a failed device or an endless input; or standard output or the
 -- report's device has failed
@@ -240,26 +245,27 @@ NamesDevice a old new out err =
 
 -- the file of the report holds what it held before, or nothing, or a first part of the defined
 -- report
-abbrev pub IsReportLeft : Asking → Holding → Holding → List ℕ → Type 0
-IsReportLeft a old new name = ((new name ≡ old name) ⊎ (new name ≡ Some []))
-    ⊎ BeginsReport a old new name
+abbrev pub IsReportLeft : Asking → Asking → Holding → Holding → List ℕ → Type 0
+IsReportLeft a f old new file = ((new file ≡ old file) ⊎ (new file ≡ Some []))
+    ⊎ BeginsReport a f old new file
 
 -- How a call with a request ends: the pairs are trimmed, or the request is refused.
 pub record PairsAnswered (a : Asking)
     (old new : FilesState) (out err : Device) (status : ℕ) : Type 0 where
   pub whole : (status ≡ 0) ⊎ (status ≡ 3) → IsTrue old.tells →
-      EndsWhole a old.bytes new.bytes out err status
+      EndsWhole a old new out err status
   pub wrong : (why : Refusal) → wrong_with a ≡ Some why → Refuses a why err status
   pub right : status ≡ 2 → IsSome (wrong_with a)
   pub line : status ≢ 0 → TookLine a old new out err status
   pub known : status ≢ 1
-  pub left : status ≢ 6 → IsTrue old.tells → AreLeft a old.bytes new.bytes
-  pub reported : (status ≡ 0) ⊎ (status ≡ 3) → IsTrue old.tells → (name : List ℕ) →
-      a.report ≡ Some name → HoldsReport a old.bytes new.bytes name
-  pub report_left : IsTrue old.tells →
-      (name : List ℕ) → a.report ≡ Some name → IsReportLeft a old.bytes new.bytes name
+  pub left : status ≢ 6 → IsTrue old.tells → AreLeft (filed old a) old.bytes new.bytes
+  pub reported : (status ≡ 0) ⊎ (status ≡ 3) → IsTrue old.tells → (file : List ℕ) →
+      (filed old a).report ≡ Some file → HoldsReport a (filed old a) old.bytes new.bytes file
+  pub report_left : IsTrue old.tells → (file : List ℕ) → (filed old a).report ≡ Some file →
+      IsReportLeft a (filed old a) old.bytes new.bytes file
   pub unopened : IsTrue old.tells → (side : Side) →
-      old.bytes (input_name a.inputs side) ≡ None → IsUnchanged old.bytes new.bytes
+      old.bytes (input_name (filed old a).inputs side) ≡ None →
+      IsUnchanged old.bytes new.bytes
 
 -- Why the example was not printed: standard output failed, memory was refused, a thread was
 -- refused, or a lane was not confirmed.

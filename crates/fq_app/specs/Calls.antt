@@ -4,7 +4,7 @@ use Rattle.clap.specs.Kinds.{Kinds}
 use Rattle.fq_text.specs.Devices.{OutletState}
 use Rattle.fq_files.specs.States.{FilesState}
 use Rattle.fq_app_words.specs.Requests.{Asking}
-use Rattle.fq_app_files.specs.Trimming.{KeepsUnnamed}
+use Rattle.fq_app_files.specs.Trimming.{filed, KeepsUnnamed}
 use Rattle.fq_app_files.specs.Leaving.{AreUntrimmed}
 use Rattle.fq_app_files.specs.Opening.{SparesInputs}
 use Rattle.fq_app.specs.Answers.{Device, device_of, AreCalls, AreRefused, IsUnshown, LacksMemory, LacksPrint, NamesDevice, PairsAnswered, TookLines, TookMemoryLine, TookText, print_line}
@@ -40,16 +40,17 @@ pub record RequestAnswered (a : Asking)
   -- status except 6 each file of an output holds what it held before, or nothing, or these files
   -- are in step for the first pairs, up to the block in which a write failed.
   pub in_step : (status ≡ 0) ⊎ (status ≡ 3) → IsTrue old.tells →
-      FilesAreInStep a old.bytes new.bytes out status
+      FilesAreInStep (filed old a) old.bytes new.bytes out status
   pub left_in_step : status ≢ 6 → IsTrue old.tells →
-      AreUntrimmed a old.bytes new.bytes ⊎ FilesAreInStepUpTo a old.bytes new.bytes
+      AreUntrimmed (filed old a) old.bytes new.bytes
+      ⊎ FilesAreInStepUpTo (filed old a) old.bytes new.bytes
   -- At status 4 the line names a file or device that was indeed refused or has failed.
   pub device : status ≡ 4 → NamesDevice a old new out err
   -- Only the files of the outputs and of the report change.
-  pub rest : IsTrue old.tells → KeepsUnnamed a old.bytes new.bytes
+  pub rest : IsTrue old.tells → KeepsUnnamed (filed old a) old.bytes new.bytes
   -- If an output or the report leads to an input, no file changes, and the status is neither 0 nor
   -- 3.
-  pub spared : SparesInputs a ((status ≢ 0) × (status ≢ 3)) old new
+  pub spared : SparesInputs (filed old a) ((status ≢ 0) × (status ≢ 3)) old new
 
 -- How `EXAMPLE` ends: it is printed unless standard output, memory or a thread fails.
 pub record ExampleAnswered (out err : Device) (status : ℕ) : Type 0 where

@@ -1,14 +1,15 @@
 //! Trims pairs from input files into output files.
 
-ghost use Rattle.std.specs.Prelude.{◌≡◌, ◌≢◌, Some, None, Ok, Err, IsTrue, IsErr, IfOk, IfErr, OnErr};
+ghost use Rattle.std.specs.Prelude.{◌≡◌, ◌≢◌, true, Some, None, Ok, Err, IsSome, IsTrue, IsErr, IfOk, IfErr, OnErr};
 ghost use Rattle.std.specs.Option.{option_map};
-ghost use Rattle.fq_run.specs.Devices.{outlet_states, AreHealthy};
-ghost use Rattle.fq_run.specs.Endings.{ends_whole, AreTold, IsTrimmed, EveryEnding};
+ghost use Rattle.fq_run.specs.Devices.{outlet_states, AreHealthy, KeepFiles};
+ghost use Rattle.fq_run.specs.Endings.{ends_whole, AreTold, IsTrimmed, EveryEnding, AreItsNames};
+ghost use Rattle.fq_run.specs.Outcomes.{is_unmatched};
 ghost use Rattle.fq_app_files.specs.declared.refusal.Refusal.{Refusal as Refused};
 ghost use Rattle.fq_app_files.specs.Refusals.{status_of};
 ghost use Rattle.fq_app_words.specs.Requests.{asking_of, input_name};
 ghost use Rattle.fq_app_files.specs.Judging.{settings_of, wrong_with};
-ghost use Rattle.fq_app_files.specs.Trimming.{KeepsUnnamed, opened_of, left_of, form_of, run_in, AreFresh};
+ghost use Rattle.fq_app_files.specs.Trimming.{filed, KeepsUnnamed, opened_of, left_of, form_of, run_in, AreFresh};
 ghost use Rattle.fq_app_files.specs.Opening.{AreReady, AreOpened, IsRefused, SparesInputs};
 ghost use Rattle.fq_app_files.specs.Completing.{IsCompleted, IsWitnessed};
 ghost use Rattle.fq_app_files.specs.Seeing.{IsReportError};
@@ -55,16 +56,18 @@ pub fn trim_files<R: Threads + Wait + Copy + Send + 'static, T: Files>(
     files: &mut T,
 ) -> Result<Completed, Refusal>
     ensures completed { IfOk result (λ completed. IsCompleted (asking_of request.now)
-        (T.state files.old) (T.state files.new)
+        (filed (T.state files.old) (asking_of request.now)) (T.state files.old) (T.state files.new)
         completed.account.outcome completed.account.counts completed.reported completed.seen) }
     ensures refused { IfErr result (λ why.
-        IsRefused (asking_of request.now) why (T.state files.old) (T.state files.new)) }
+        IsRefused (asking_of request.now) (filed (T.state files.old) (asking_of request.now)) why
+        (T.state files.old) (T.state files.new)) }
     ensures unfailed { OnErr result (IsSound (T.state files.old) (T.state files.new)) }
-    ensures report_says { IfOk result (λ completed. IsReportError (asking_of request.now)
+    ensures report_says { IfOk result (λ completed. IsReportError
+        (filed (T.state files.old) (asking_of request.now))
         (T.state files.old).may_say completed.reported completed.report_error) }
 
     ensures rest { IsTrue (T.state files.old).tells
-        → KeepsUnnamed (asking_of request.now)
+        → KeepsUnnamed (filed (T.state files.old) (asking_of request.now))
         (T.state files.old).bytes (T.state files.new).bytes }
 
     // Refused memory, a refused thread and an unconfirmed lane have a witness, and the gate lets
@@ -73,7 +76,7 @@ pub fn trim_files<R: Threads + Wait + Copy + Send + 'static, T: Files>(
     ensures no_gate { IfOk result (λ completed. completed.account.outcome ≢ Outcome.Gate) }
 
     // If an output or the report leads to an input, no file changes.
-    ensures spared { SparesInputs (asking_of request.now)
+    ensures spared { SparesInputs (filed (T.state files.old) (asking_of request.now))
         (IsErr result) (T.state files.old) (T.state files.new) }
 
     // If the request is wrong, no file is opened.
@@ -84,7 +87,8 @@ pub fn trim_files<R: Threads + Wait + Copy + Send + 'static, T: Files>(
 
     // If an input does not exist, no output is made.
     ensures unopened { IsTrue (T.state files.old).tells → (side : Side)
-        → (T.state files.old).bytes (input_name (asking_of request.now).inputs side) ≡ None
+        → (T.state files.old).bytes (input_name
+        (filed (T.state files.old) (asking_of request.now)).inputs side) ≡ None
         → IsUnchanged (T.state files.old).bytes (T.state files.new).bytes }
 {
     let settings = judge(request)?;
@@ -107,21 +111,24 @@ fn complete<R: Threads + Wait + Copy + Send + 'static, T: Files>(
     files: &mut T,
     devices: Devices<T::In, T::Target>,
 ) -> Completed
-    requires ready { AreReady (asking_of request.now)
+    requires ready { AreReady (filed (T.state files.old) (asking_of request.now))
         (T.state files.old) (opened_of T.In.state devices.feeds)
         (outlet_states T.Target.state devices.outlets) (option_map T.Target.state devices.report) }
     ensures completed { (start : FilesState) → IsSound start (T.state files.old)
-        → AreOpened (asking_of request.now)
+        → AreOpened (filed start (asking_of request.now))
         start (T.state files.old) (opened_of T.In.state devices.feeds)
         (outlet_states T.Target.state devices.outlets) (option_map T.Target.state devices.report)
         → settings_of (asking_of request.now) ≡ Ok settings.now
-        → wrong_with (asking_of request.now) ≡ None
-        → IsCompleted (asking_of request.now) start (T.state files.new)
+        → IsCompleted (asking_of request.now) (filed start (asking_of request.now))
+        start (T.state files.new)
         result.account.outcome result.account.counts result.reported result.seen }
-    ensures report_says { IsReportError (asking_of request.now)
+    ensures report_says { IsReportError (filed (T.state files.old) (asking_of request.now))
         (T.state files.old).may_say result.reported result.report_error }
     ensures kept { OnlyStores (T.state files.old) (T.state files.new) }
     ensures witnessed { IsWitnessed result.account }
+    // Names that differ are told, unless memory was refused.
+    ensures names { is_unmatched result.account.outcome ≡ true →
+        result.seen.unmatched ≡ None → IsSome result.account.refused }
     ensures no_gate { result.account.outcome ≢ Outcome.Gate }
 {
     let Devices {
@@ -172,6 +179,11 @@ fn run<R: Threads + Wait + Copy + Send + 'static, F: Feed + Drop + Send + 'stati
         (outlet_states O.state outlets.old) (outlet_states O.state outlets.new)
         (left_of F.state result.feeds) result.account in
         run.outcome ≢ Outcome.Lane → EveryEnding settings.now run }
+    ensures files { KeepFiles
+        (outlet_states O.state outlets.old) (outlet_states O.state outlets.new) }
+    ensures names { let inputs = opened_of F.state feeds in
+        AreItsNames inputs.form settings.now.encoding inputs.forward inputs.reverse
+        result.account.outcome result.unmatched result.account.refused }
     ensures form { form_of result.feeds ≡ (opened_of F.state feeds).form }
     // A feed is lost only with its thread.
     ensures returned { (side : Side) → left_of F.state result.feeds side ≡ None

@@ -100,21 +100,21 @@ module _ (a : Asking) (c : Choices) (old new : Holding) (run : Run)
       }
 
 -- What the report of a run holds once it is written.
-pub report_of_run : (a : Asking) (c : Choices) (old new : Holding) (run : Run) (account : Account)
-    (encoding : Encoding) (reported : Reported) (name bytes : List ℕ)
+pub report_of_run : (a f : Asking) (c : Choices) (old new : Holding) (run : Run) (account : Account)
+    (encoding : Encoding) (reported : Reported) (file bytes : List ℕ)
     → settings_of a ≡ Ok c → run.form ≡ a.inputs.form →
-    old a.inputs.forward ≡ Some run.forward.to_come →
-    old a.inputs.reverse ≡ Some run.reverse.to_come
+    old f.inputs.forward ≡ Some run.forward.to_come →
+    old f.inputs.reverse ≡ Some run.reverse.to_come
     → account.outcome ≡ run.outcome → account.counts ≡ run.counts → account.tally ≡ run.tally
     → (IsTrue (ends_whole run.outcome) → IsTrimmed c run) → encoding ≡ c.encoding
     → (reported ≢ report.NotDue → (outcome_status account.outcome ≡ 0)
     ⊎ (outcome_status account.outcome ≡ 3))
-    → new name ≡ Some bytes → TookReport reported a encoding account [] bytes →
-    ReportHeld reported a old new name
-report_of_run a c old new run account encoding reported name bytes settings form forward_is
+    → new file ≡ Some bytes → TookReport reported a encoding account [] bytes →
+    ReportHeld reported a f old new file
+report_of_run a f c old new run account encoding reported file bytes settings form forward_is
     reverse_is outcome counts tally trims encoding_is due at took =
     let R : Encoding → Type 0 = λ e. TookReport reported a e account [] bytes in
-    report_held a c old new account reported name bytes
+    report_held a f c old new account reported file bytes
     (λ text is wanted.
     let W : Outcome → Type 0 = λ o. IsTrue (ends_whole o) in
     let trimmed = trims (subst W outcome (ends_so account.outcome _ refl (due wanted))) in

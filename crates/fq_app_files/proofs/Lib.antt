@@ -1,4 +1,5 @@
 pub mod EndingLemmas
+pub mod FiledLemmas
 pub mod LeavingLemmas
 pub mod StoreLemmas
 mod RestLemmas

@@ -8,11 +8,11 @@ use Rattle.fq_pair.specs.declared.out.Out.TheVariants.{ForwardPaired, ForwardUnp
 use Rattle.fq_files.specs.Holding.{Holding, KeepsOthers}
 use Rattle.fq_files.specs.States.{FilesState, OnlyWrites}
 use Rattle.fq_text.specs.Devices.{OutletState}
-use Rattle.fq_run_core.specs.Devices.{OutletStates, place}
+use Rattle.fq_run_core.specs.Devices.{OutletStates, outlet_at, place}
 use Rattle.fq_app_files.specs.Refusals.{IsMemory, IsTarget, IsReport}
 use Rattle.fq_app_files.specs.declared.refusal.Refusal.{Refusal}
 use Rattle.fq_app_words.specs.Requests.{Asking, output_name}
-use Rattle.fq_app_files.specs.Trimming.{IsNoOutput, KeepsRest, AreEmpty, AreHeld, IsEmptyOutlet}
+use Rattle.fq_app_files.specs.Trimming.{IsNoOutput, KeepsRest, AreHeld}
 use Rattle.fq_app_files.specs.Leaving.{AreUntrimmed, StopsAt, RefusalLeaves}
 use Rattle.fq_app_files.specs.Making.{AreMade, Made, Unmade}
 use Rattle.fq_app_files.proofs.StoreLemmas.{same_place, below_next}
@@ -302,17 +302,19 @@ report_unmade a refusal old new is empty =
     ⊎_elim (λ report. subst P (sym report.1) (inl empty))
     (λ memory. subst P (sym memory.1) (λ out name named. inr (empty out name named))) is
 
--- outlets that are each empty are all empty
-pub all_empty : (o : OutletStates) → IsEmptyOutlet o.forward_paired →
-    IsEmptyOutlet o.forward_unpaired → IsEmptyOutlet o.reverse_paired →
-    IsEmptyOutlet o.reverse_unpaired → IfSome o.log IsEmptyOutlet → AreEmpty o
-all_empty o one two three four log ForwardPaired outlet at =
-    let is : o.forward_paired ≡ outlet = cc in subst IsEmptyOutlet is one
-all_empty o one two three four log ForwardUnpaired outlet at =
-    let is : o.forward_unpaired ≡ outlet = cc in subst IsEmptyOutlet is two
-all_empty o one two three four log ReversePaired outlet at =
-    let is : o.reverse_paired ≡ outlet = cc in subst IsEmptyOutlet is three
-all_empty o one two three four log ReverseUnpaired outlet at =
-    let is : o.reverse_unpaired ≡ outlet = cc in subst IsEmptyOutlet is four
-all_empty o one two three four log Log outlet at =
-    let P : Option OutletState → Type 0 = λ o. IfSome o IsEmptyOutlet in subst P at log
+-- what holds of each outlet
+pub each_outlet : (P : Out → OutletState → Type 0) (o : OutletStates) →
+    P ForwardPaired o.forward_paired → P ForwardUnpaired o.forward_unpaired →
+    P ReversePaired o.reverse_paired → P ReverseUnpaired o.reverse_unpaired →
+    IfSome o.log (P Log) → (out : Out) (outlet : OutletState) → outlet_at out o ≡ Some outlet →
+    P out outlet
+each_outlet P o one two three four log ForwardPaired outlet at =
+    let is : o.forward_paired ≡ outlet = cc in subst (P ForwardPaired) is one
+each_outlet P o one two three four log ForwardUnpaired outlet at =
+    let is : o.forward_unpaired ≡ outlet = cc in subst (P ForwardUnpaired) is two
+each_outlet P o one two three four log ReversePaired outlet at =
+    let is : o.reverse_paired ≡ outlet = cc in subst (P ReversePaired) is three
+each_outlet P o one two three four log ReverseUnpaired outlet at =
+    let is : o.reverse_unpaired ≡ outlet = cc in subst (P ReverseUnpaired) is four
+each_outlet P o one two three four log Log outlet at =
+    let Q : Option OutletState → Type 0 = λ o. IfSome o (P Log) in subst Q at log

@@ -1,12 +1,9 @@
 -- What a refusal leaves, in the order in which inputs are opened and outputs are made.
 use Rattle.std.proofs.Common.{◌≡◌, ◌≢◌, ◌⊎◌, ◌∙◌, ℕ, Bool, true, false, IsTrue, IsSome, Option, Some, None, option_map, Ok, Err, Result, List, refl, sym, ap, subst, inl, inr, ⊎_elim}
-use Rattle.std.specs.Prelude.{if◌then◌else◌, unwrap_or, ◌||◌}
-use Rattle.std.specs.Str.{bytes_eq}
-use Rattle.std.proofs.lemmas.Slice.Eq.{bytes_eq-Decides}
-use Rattle.std.proofs.Math.Bool.{or-true}
+use Rattle.std.specs.Prelude.{if◌then◌else◌, unwrap_or}
 use Rattle.fq_text.specs.Scores.{encoding_of}
-use Rattle.fq_files.specs.Holding.{Holding, KeepsNames}
-use Rattle.fq_files.specs.States.{Causes, FilesState, Names, MayRefuse, MayRefuseInput, OnlyOpens, OnlyWrites}
+use Rattle.fq_files.specs.Holding.{Holding, KeepsFiles}
+use Rattle.fq_files.specs.States.{Causes, FilesState, Keys, MayRefuse, MayRefuseInput, OnlyOpens, OnlyWrites}
 use Rattle.fq_files.specs.declared.files.Cause.{Cause}
 use Rattle.fq_files.specs.declared.files.Cause.TheVariants as cause
 use Rattle.fq_files.specs.declared.files.FileFault.{FileFault}
@@ -28,10 +25,11 @@ use Rattle.fq_app_files.specs.declared.refusal.Refusal.{Refusal}
 use Rattle.fq_app_files.specs.declared.refusal.Refusal.TheVariants as why
 use Rattle.fq_app_files.specs.Refusals.{status_of, IsMemory, IsRefusable, IsTarget, IsReport}
 use Rattle.fq_app_files.specs.Judging.{choices_of, judged, with_steps, with_encoding, settings_of, wrong_among, wrong_with}
-use Rattle.fq_app_files.specs.Trimming.{Opened, IsNoOutput, KeepsUnnamed, AreFed}
+use Rattle.fq_app_files.specs.Trimming.{Opened, IsNoOutput, KeepsUnnamed, AreFed, filed}
 use Rattle.fq_app_files.specs.Leaving.{AreThere, TellsInputs, RefusalLeaves, ReportLeft, is_late}
 use Rattle.fq_app_files.specs.Making.{Made, AreOutputsRefused, IsOutputRefused}
-use Rattle.fq_app_files.specs.Opening.{IsMade, IsRefused, IsUnopened, MayLead}
+use Rattle.fq_app_files.specs.Opening.{AreNoInputs, IsMade, IsRefused, IsUnopened, MayLead, MayRefuseName}
+use Rattle.fq_app_files.proofs.FiledLemmas.{named_filed}
 use Rattle.fq_app_files.proofs.LeavingLemmas.{tells_late}
 use Rattle.fq_app_files.proofs.MakingLemmas.{this_or_other}
 
@@ -51,7 +49,7 @@ fed_there inputs names old fed Reverse none =
 
 -- the inputs exist in files that keep every name
 pub still_there : (inputs : Opened) (names : InputNames) (old new : Holding) →
-    AreFed inputs names old → KeepsNames old new → AreThere names new
+    AreFed inputs names old → KeepsFiles old new → AreThere names new
 still_there inputs names old new fed keeps = (
   keeps names.forward (some_there _ _ fed.forward.bytes_are),
   keeps names.reverse
@@ -184,10 +182,10 @@ wrong_first a (Ok c) None true refusal is e = let one : why.SameReport ≡ refus
     subst (λ (r : Refusal). IsTrue (is_first r)) one refl
 wrong_first a (Ok c) None false refusal is e = absurd (cc e)
 
-first_refused : (a : Asking) (refusal : Refusal) (files : FilesState) →
-    IsTrue (is_first refusal) → IsRefused a refusal files files
+first_refused : (a f : Asking) (refusal : Refusal) (files : FilesState) →
+    IsTrue (is_first refusal) → IsRefused a f refusal files files
 unfolding is_first
-first_refused a why.Encoding files first =
+first_refused a f why.Encoding files first =
     record {
       refused = tt;
       inputs = λ told. tt;
@@ -195,7 +193,7 @@ first_refused a why.Encoding files first =
       report_left =
           λ told name named free. refl;
     }
-first_refused a (why.Step fault) files first =
+first_refused a f (why.Step fault) files first =
     record {
       refused = tt;
       inputs = λ told. tt;
@@ -203,7 +201,7 @@ first_refused a (why.Step fault) files first =
       report_left =
           λ told name named free. refl;
     }
-first_refused a (why.Setting bad) files first =
+first_refused a f (why.Setting bad) files first =
     record {
       refused = tt;
       inputs = λ told. tt;
@@ -211,7 +209,7 @@ first_refused a (why.Setting bad) files first =
       report_left =
           λ told name named free. refl;
     }
-first_refused a (why.SameName out) files first =
+first_refused a f (why.SameName out) files first =
     record {
       refused = tt;
       inputs = λ told. tt;
@@ -219,9 +217,9 @@ first_refused a (why.SameName out) files first =
       report_left =
           λ told name named free. refl;
     }
-first_refused a (why.Source side cause) files first = absurd (cc first)
-first_refused a (why.Target out cause) files first = absurd (cc first)
-first_refused a why.SameReport files first =
+first_refused a f (why.Source side cause) files first = absurd (cc first)
+first_refused a f (why.Target out cause) files first = absurd (cc first)
+first_refused a f why.SameReport files first =
     record {
       refused = tt;
       inputs = λ told. tt;
@@ -229,8 +227,8 @@ first_refused a why.SameReport files first =
       report_left =
           λ told name named free. refl;
     }
-first_refused a (why.Report cause) files first = absurd (cc first)
-first_refused a (why.Memory lacked) files first =
+first_refused a f (why.Report cause) files first = absurd (cc first)
+first_refused a f (why.Memory lacked) files first =
     record {
       refused = tt;
       inputs = λ told. tt;
@@ -240,9 +238,9 @@ first_refused a (why.Memory lacked) files first =
     }
 
 -- the request was wrong
-pub wrong_refused : (a : Asking) (refusal : Refusal) (files : FilesState) →
-    wrong_with a ≡ Some refusal → IsRefused a refusal files files
-wrong_refused a refusal files wrong = first_refused a refusal files
+pub wrong_refused : (a f : Asking) (refusal : Refusal) (files : FilesState) →
+    wrong_with a ≡ Some refusal → IsRefused a f refusal files files
+wrong_refused a f refusal files wrong = first_refused a f refusal files
     (wrong_first a (settings_of a) (same_name a) (report_is_input a) refusal refl wrong)
 
 -- what holds of the name that was refused, and of the cause
@@ -262,7 +260,7 @@ refusable_so a P Q (why.Source side cause) so refused = refused
 refusable_so a P Q why.SameReport so refused = refused
 
 -- a name that may be refused after the inputs are opened
-pub refusable_since : (a : Asking) (old : FilesState) (refuses : Causes) (opened : Names)
+pub refusable_since : (a : Asking) (old : FilesState) (refuses : Causes) (opened : Keys)
     (refusal : Refusal) → refuses ≡ old.refuses →
     ((name : List ℕ) → IsTrue (opened name) → MayLead a.inputs old name cause.Input) →
     IsRefusable a
@@ -286,83 +284,45 @@ if_none : (b : Bool) (out : Out) (rest : Option Out) → (if b then Some out els
 if_none true out rest none = absurd (cc none)
 if_none false out rest none = (refl, none)
 
-log_differs : (a : Asking) (log : Option (List ℕ)) (name : List ℕ) → same_log a log ≡ None →
-    log ≡ Some name → IsTrue (is_input a.inputs name) → ⊥
-log_differs a None name none named is = absurd (cc named)
-log_differs a (Some log) name none named is =
+log_free : (a : Asking) (log : Option (List ℕ)) (name : List ℕ) → same_log a log ≡ None →
+    log ≡ Some name → is_input a.inputs name ≡ false
+log_free a None name none named = absurd (cc named)
+log_free a (Some log) name none named =
     let equal : log ≡ name = cc in
-    clash (is_input a.inputs name) is (subst (λ (n : List ℕ). is_input a.inputs n ≡ false) equal
-    (if_none (is_input a.inputs log) Log None none).0)
+    subst (λ (n : List ℕ). is_input a.inputs n ≡ false) equal
+    (if_none (is_input a.inputs log) Log None none).0
 
 -- the name of an output is no input's
-differs_from : (a : Asking) (out : Out) (name : List ℕ) → same_name a ≡ None →
-    output_name a out ≡ Some name → IsTrue (is_input a.inputs name) → ⊥
-differs_from a out name none named is =
+output_free : (a : Asking) (out : Out) (name : List ℕ) → same_name a ≡ None →
+    output_name a out ≡ Some name → is_input a.inputs name ≡ false
+output_free a out name none named =
     let one = if_none (is_input a.inputs a.forward_paired) ForwardPaired _ none in
     let two = if_none (is_input a.inputs a.forward_unpaired) ForwardUnpaired _ one.1 in
     let three = if_none (is_input a.inputs a.reverse_paired) ReversePaired _ two.1 in
     let four = if_none (is_input a.inputs a.reverse_unpaired) ReverseUnpaired _ three.1 in
     at_output out one.0 two.0 three.0 four.0 four.1 named
   where
-    as_named : (own : List ℕ) → Some own ≡ Some name → is_input a.inputs own ≡ false → ⊥
+    as_named : (own : List ℕ) → Some own ≡ Some name → is_input a.inputs own ≡ false →
+        is_input a.inputs name ≡ false
     as_named own same free = let equal : own ≡ name = cc in
-        clash (is_input a.inputs name) is (subst (λ (n : List ℕ). is_input a.inputs n ≡ false) equal
-        free)
+        subst (λ (n : List ℕ). is_input a.inputs n ≡ false) equal free
 
     at_output : (this : Out) → is_input a.inputs a.forward_paired ≡ false →
         is_input a.inputs a.forward_unpaired ≡ false → is_input a.inputs a.reverse_paired ≡ false →
         is_input a.inputs a.reverse_unpaired ≡ false
-        → same_log a a.log ≡ None → output_name a this ≡ Some name → ⊥
+        → same_log a a.log ≡ None → output_name a this ≡ Some name → is_input a.inputs name ≡ false
     at_output ForwardPaired one two three four log same = as_named a.forward_paired same one
     at_output ForwardUnpaired one two three four log same = as_named a.forward_unpaired same two
     at_output ReversePaired one two three four log same = as_named a.reverse_paired same three
     at_output ReverseUnpaired one two three four log same = as_named a.reverse_unpaired same four
-    at_output Log one two three four log same = log_differs a a.log name log same is
+    at_output Log one two three four log same = log_free a a.log name log same
 
 -- nor is the report's
-report_differs : (a : Asking) (name : List ℕ) → report_is_input a ≡ false → a.report ≡ Some name →
-    IsTrue (is_input a.inputs name) → ⊥
-report_differs a name free named is =
+report_free : (a : Asking) (name : List ℕ) → report_is_input a ≡ false → a.report ≡ Some name →
+    is_input a.inputs name ≡ false
+report_free a name free named =
     let P : Option (List ℕ) → Type 0 = λ o. unwrap_or (option_map (is_input a.inputs) o) false
-    ≡ false in
-    clash (is_input a.inputs name) is (subst P named free)
-
-named_input : (inputs : InputNames) (side : Side) →
-    IsTrue (is_input inputs (input_name inputs side))
-named_input inputs Forward =
-    let same : bytes_eq inputs.forward inputs.forward ≡ true =
-    (bytes_eq-Decides inputs.forward inputs.forward).1 refl in
-    ap (λ b. b || bytes_eq inputs.forward inputs.reverse) same
-named_input inputs Reverse =
-    let same : bytes_eq inputs.reverse inputs.reverse ≡ true =
-    (bytes_eq-Decides inputs.reverse inputs.reverse).1 refl in
-    ap (λ b. bytes_eq inputs.reverse inputs.forward || b) same
-    ∙ or-true (bytes_eq inputs.reverse inputs.forward)
-
--- a name that leads to an input once the inputs are opened is no input's, if the request is right
-no_input : (a : Asking) (P : List ℕ → Cause → Type 0) (refusal : Refusal) → same_name a ≡ None →
-    report_is_input a ≡ false → IsRefusable a
-    (λ name given. ((given ≡ cause.Input) × IsTrue (is_input a.inputs name)) ⊎ P name given)
-    refusal → IsRefusable a P refusal
-no_input a P (why.Target out given) outputs report refused = (
-  refused.0,
-  refused.1,
-  ⊎_elim (λ is. absurd (differs_from a out refused.0 outputs refused.1 is.1))
-      (λ other. other) refused.2,
-)
-no_input a P (why.Report given) outputs report refused = (
-  refused.0,
-  refused.1,
-  ⊎_elim (λ is. absurd (report_differs a refused.0 report refused.1 is.1))
-      (λ other. other) refused.2,
-)
-no_input a P (why.Memory lacked) outputs report refused = refused
-no_input a P why.Encoding outputs report refused = refused
-no_input a P (why.Step fault) outputs report refused = refused
-no_input a P (why.Setting bad) outputs report refused = refused
-no_input a P (why.SameName out) outputs report refused = refused
-no_input a P (why.Source side cause) outputs report refused = refused
-no_input a P why.SameReport outputs report refused = refused
+    ≡ false in subst P named free
 
 right_names : (a : Asking) (r : Result Choices Refusal) (same : Option Out) (same_report : Bool) →
     wrong_among r same same_report ≡ None → (same ≡ None) × (same_report ≡ false)
@@ -371,36 +331,83 @@ right_names a (Ok c) (Some out) same_report right = absurd (cc right)
 right_names a (Ok c) None true right = absurd (cc right)
 right_names a (Ok c) None false right = (refl, refl)
 
--- an output or the report of a right request is refused only under a name that may be refused, or
--- led to an input before
+-- a name that leads to a file, if something does
+led_by : (leads : List ℕ → List ℕ) (o : Option (List ℕ)) (file : List ℕ) →
+    option_map leads o ≡ Some file → (name : List ℕ) × (o ≡ Some name) × (leads name ≡ file)
+led_by leads None file led = absurd (cc led)
+led_by leads (Some name) file led = (name, refl, cc)
+
+-- What is refused under a name that is no input's.
+module _ (a : Asking) (old : FilesState) where
+  abbrev inputs : InputNames
+  inputs = (filed old a).inputs
+
+  so_named : (name file : List ℕ) (given : Cause) → is_input a.inputs name ≡ false →
+      old.leads name ≡ file → MayLead inputs old file given →
+      MayRefuseName a.inputs inputs old name given
+  so_named name file given free led may =
+      let P : List ℕ → Type 0 = λ x. MayLead inputs old x given in
+      ⊎_elim (λ is. inl (free, is.0, is.1)) (λ other. inr other) (subst P (sym led) may)
+
+  all_named : (refusal : Refusal) → same_name a ≡ None → report_is_input a ≡ false →
+      IsRefusable (filed old a) (MayLead inputs old) refusal →
+      IsRefusable a (MayRefuseName a.inputs inputs old) refusal
+  all_named (why.Target out given) outputs report refused =
+      let named = led_by old.leads (output_name a out) refused.0
+      (sym (named_filed old a out) ∙ refused.1) in (
+        named.0,
+        named.1,
+        so_named named.0 refused.0 given (output_free a out named.0 outputs named.1)
+            named.2 refused.2,
+      )
+  all_named (why.Report given) outputs report refused =
+      let named = led_by old.leads a.report refused.0 refused.1 in (
+        named.0,
+        named.1,
+        so_named named.0 refused.0 given (report_free a named.0 report named.1)
+            named.2 refused.2,
+      )
+  all_named (why.Memory lacked) outputs report refused = refused
+  all_named why.Encoding outputs report refused = refused
+  all_named (why.Step fault) outputs report refused = refused
+  all_named (why.Setting bad) outputs report refused = refused
+  all_named (why.SameName out) outputs report refused = refused
+  all_named (why.Source side cause) outputs report refused = refused
+  all_named why.SameReport outputs report refused = refused
+
+-- an output or the report of a right request is refused only under a name whose file may be
+-- refused, or led to an input before, or is that of an input of another name
 pub refusable_right : (a : Asking) (old : FilesState) (refusal : Refusal) →
-    wrong_with a ≡ None → IsRefusable a (MayLead a.inputs old) refusal →
-    IsRefusable a (MayRefuse old) refusal
+    wrong_with a ≡ None → IsRefusable (filed old a) (MayLead (filed old a).inputs old) refusal →
+    IsRefusable a (MayRefuseName a.inputs (filed old a).inputs old) refusal
 refusable_right a old refusal right refused =
     let names = right_names a (settings_of a) (same_name a) (report_is_input a) right in
-    no_input a (MayRefuse old) refusal names.0 names.1 refused
+    all_named a old refusal names.0 names.1 refused
 
--- if only files of the outputs and of the report have changed, the inputs of a right request have
--- not
-pub inputs_kept : (a : Asking) (old new : Holding) → wrong_with a ≡ None → KeepsUnnamed a old new →
+-- if only files of the outputs and of the report have changed, those of the inputs have not
+pub inputs_kept : (a : Asking) (old new : Holding) → AreNoInputs a → KeepsUnnamed a old new →
     (side : Side) → new (input_name a.inputs side) ≡ old (input_name a.inputs side)
-inputs_kept a old new right kept side =
-    let names = right_names a (settings_of a) (same_name a) (report_is_input a) right in
-    let is = named_input a.inputs side in
-    kept (input_name a.inputs side) (λ out named. differs_from a out _ names.0 named is)
-    (λ named. report_differs a _ names.1 named is)
+inputs_kept a old new apart kept side = kept _ (apart side).0 (apart side).1
 
 -- no output leads to an input, and nor does the report
-pub leads_nowhere : (a : Asking) (before after : Names) → after ≡ before
+pub leads_nowhere : (a : Asking) (before after : Keys) → after ≡ before
     → ((out : Out) (name : List ℕ) → output_name a out ≡ Some name → before name ≡ false) →
     ((name : List ℕ) → a.report ≡ Some name → before name ≡ false) → (name : List ℕ) →
     IsMade a name → IsTrue (after name) → ⊥
 leads_nowhere a before after same outputs report name made leads =
-    let led : IsTrue (before name) = subst (λ (names : Names). IsTrue (names name)) same leads in
+    let led : IsTrue (before name) = subst (λ (names : Keys). IsTrue (names name)) same leads in
     ⊎_elim (λ output. clash (before name) led (outputs output.0 name output.1))
     (λ named. clash (before name) led (report name named)) made
 
--- ---- which files exist
+-- if no output leads to an input, and nor does the report, their files are none of the inputs
+pub no_inputs : (a : Asking) (is_open : Keys) →
+    ((side : Side) → IsTrue (is_open (input_name a.inputs side)))
+    → ((out : Out) (name : List ℕ) → output_name a out ≡ Some name → is_open name ≡ false) →
+    ((name : List ℕ) → a.report ≡ Some name → is_open name ≡ false) → AreNoInputs a
+no_inputs a is_open opened outputs report side = (
+  λ out named. clash _ (opened side) (outputs out _ named),
+  λ named. clash _ (opened side) (report _ named),
+)
 
 -- ---- the reverse input
 
@@ -416,6 +423,7 @@ tells_reverse inputs refusal old mid (inl memory) there kept linked =
     subst P (sym memory.1) tt
 tells_reverse inputs refusal old mid (inr source) there kept linked =
     let P : Refusal → Type 0 = λ r. TellsInputs inputs r old in
+    let given = source.0 in
     let refused = source.2 in
     subst P (sym source.1) (
       there,
@@ -423,8 +431,10 @@ tells_reverse inputs refusal old mid (inr source) there kept linked =
         missing = λ error is. (
           subst (λ (files : FilesState). IsTrue (files.may_say inputs.reverse error)) kept
               (refused.missing error is).0,
-          λ told. sym (same_as _ _ kept inputs.reverse)
-              ∙ (refused.missing error is).1 (told_as _ _ kept told),
+          λ told. ⊎_elim (λ none. inl (sym (same_as _ _ kept inputs.reverse) ∙ none))
+              (λ may. inr (subst (λ (files : FilesState).
+              IsTrue (files.refuses inputs.reverse given)) kept may))
+              ((refused.missing error is).1 (told_as _ _ kept told)),
         );
         twice = λ is. ⊎_elim
             (λ one. let twice : inputs.reverse ≡ inputs.forward = cc in inl twice)

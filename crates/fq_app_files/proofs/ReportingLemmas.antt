@@ -89,22 +89,23 @@ text_is a c all account text is counts outcome tally =
     is.text_is ∙ (λ i. text_of (run_facts a c.encoding (outcome i) (counts i) (same i)))
 
 -- what the file of the report holds, by what its outlet has taken
-pub report_held : (a : Asking) (c : Choices) (old new : Holding) (account : Account)
-    (reported : Reported) (name bytes : List ℕ)
+pub report_held : (a f : Asking) (c : Choices) (old new : Holding) (account : Account)
+    (reported : Reported) (file bytes : List ℕ)
     → ((text : List ℕ) → IsTextOf a c.encoding account text → reported ≢ NotDue →
-    IsReport a old text)
-    → new name ≡ Some bytes → TookReport reported a c.encoding account [] bytes →
-    ReportHeld reported a old new name
-report_held a c old new account NotDue name bytes is held took = held ∙ ap Some took
-report_held a c old new account Written name bytes is held took = record {
+    IsReport a f old text)
+    → new file ≡ Some bytes → TookReport reported a c.encoding account [] bytes →
+    ReportHeld reported a f old new file
+report_held a f c old new account NotDue file bytes is held took = held ∙ ap Some took
+report_held a f c old new account Written file bytes is held took = record {
   text = took.text;
   is = is took.text took.is (λ e. absurd (cc e));
   held = held ∙ ap Some took.took;
 }
-report_held a c old new account Failed name bytes is held took = record {
+report_held a f c old new account Failed file bytes is held took = record {
   text = took.text;
   count = took.count;
   is = is took.text took.is (λ e. absurd (cc e));
   held = held ∙ ap Some took.took;
 }
-report_held a c old new account (OutOfMemory refused) name bytes is held took = held ∙ ap Some took
+report_held a f c old new account (OutOfMemory refused) file bytes is held took =
+    held ∙ ap Some took

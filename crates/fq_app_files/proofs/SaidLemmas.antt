@@ -1,12 +1,12 @@
 -- What is said of an outcome.
-use Rattle.std.proofs.Common.{◌≡◌, ◌≢◌, ◌∙◌, ℕ, IsSome, Option, Some, None, is_some, List, refl, sym, ap, subst, arith}
-use Rattle.std.specs.Prelude.{unwrap_or}
+use Rattle.std.proofs.Common.{◌≡◌, ◌≢◌, ◌∙◌, ℕ, Bool, IsTrue, IsSome, Option, Some, None, is_some, List, refl, sym, ap, subst, arith}
 use Rattle.fq_text.specs.Devices.{FeedState}
 use Rattle.fq_text.specs.declared.seen.SystemError.{SystemError}
 use Rattle.fq_text.specs.declared.fault.TextFault.{TextFault}
 use Rattle.fq_files.specs.Holding.{Holding}
 use Rattle.fq_files.specs.States.{Errors, FilesState, MaySay, OnlyStores}
-use Rattle.fq_files.proofs.StateLemmas.{says_as, then_store}
+use Rattle.fq_files.proofs.StateLemmas.{then_store}
+use Rattle.fq_pair.specs.declared.out.Out.{Out}
 use Rattle.fq_pair.specs.declared.out.Out.TheVariants.{ForwardPaired, ForwardUnpaired, ReversePaired, ReverseUnpaired, Log}
 use Rattle.fq_pair.specs.Mates.{MateNames}
 use Rattle.fq_pair.specs.declared.side.Side.{Side}
@@ -17,10 +17,11 @@ use Rattle.fq_run_core.specs.declared.outcome.Outcome.TheVariants.{Spawn, Lane, 
 use Rattle.fq_run_core.specs.declared.outlets.Outlets.{Outlets}
 use Rattle.fq_run_core.specs.Choices.{Choices}
 use Rattle.fq_run_core.specs.Endings.{EveryEnding, Run, failures_in, feed_left}
-use Rattle.fq_app_words.specs.Requests.{Asking, InputNames, input_name}
+use Rattle.fq_app_words.specs.Requests.{Asking, InputNames, input_name, output_name}
 use Rattle.fq_app_files.specs.Faults.{settled}
+use Rattle.fq_app_files.specs.Trimming.{filed}
 use Rattle.fq_app_files.proofs.FailureLemmas.{wanted_output, write_failed}
-use Rattle.fq_app_files.specs.Seeing.{InputsMaySay, InputsTellWhy, IsItsError, IsSaid, LookAsTheyAre, OutputsMaySay, OutputsTellWhy, file_of, seen_when}
+use Rattle.fq_app_files.specs.Seeing.{AreNamesOfPair, InputsMaySay, InputsTellWhy, IsItsError, IsSaid, LookAsTheyAre, OutputsMaySay, OutputsTellWhy, error_of, file_of, seen_when}
 use Rattle.fq_app_files.specs.declared.feeds.InputsSeen.{InputsSeen}
 use Rattle.fq_app_files.specs.declared.seeing.EndingSeen.{EndingSeen}
 
@@ -41,26 +42,29 @@ on_side left Forward both = both.0
 on_side left Reverse both = both.1
 
 -- what the inputs say is said of them
-pub is_said : (names : InputNames) (old now : Holding) (outcome : Outcome)
+pub is_said : (looks : Bool) (f : Asking) (old now : Holding) (outcome : Outcome)
     (left : Side → Option FeedState) (said : InputsSeen) (errors : Outlets (Option SystemError))
     (unmatched : Option MateNames) (seen : EndingSeen) →
     seen ≡ seen_when unmatched said errors (settled outcome) →
     ((side : Side) → left side ≡ None → outcome ≡ Spawn) →
-    ((side : Side) → now (input_name names side) ≡ old (input_name names side)) →
-    LookAsTheyAre names now left said → InputsTellWhy left said →
+    ((side : Side) → now (input_name f.inputs side) ≡ old (input_name f.inputs side)) →
+    (IsTrue looks → LookAsTheyAre f.inputs now left said) → InputsTellWhy left said →
     ((side : Side) (fault : TextFault) → settled outcome ≡ Input (Text side fault) →
     (failures_in (left Forward) ≡ 0) × (failures_in (left Reverse) ≡ 0)) →
-    IsSaid names old (settled outcome) seen
-is_said names old now outcome left said errors unmatched seen is returned kept looks fails sound =
+    AreNamesOfPair f old (settled outcome) seen.unmatched →
+    IsSaid looks f old (settled outcome) seen
+is_said looks f old now outcome left said errors unmatched seen is returned kept as_they_are
+    fails sound named =
     record {
-      look = λ side fault bytes at held.
+      look = λ known side fault bytes at held.
           ap (λ (s : EndingSeen). s.look) (is ∙ ap (seen_when unmatched said errors) at)
-          ∙ looks side bytes
+          ∙ as_they_are known side bytes
           (there (left side) (λ none. not_spawn outcome side fault at (returned side none)))
           (kept side ∙ held);
       no_error = λ side fault at.
           ap (λ (s : EndingSeen). s.error) (is ∙ ap (seen_when unmatched said errors) at)
           ∙ (fails side).0 (on_side left side (sound side fault at));
+      named = named;
     }
 
 -- where no error is told, each that is told is right
@@ -75,27 +79,27 @@ module _ (a : Asking) (start one two three four : FilesState)
     (errors : Outlets (Option SystemError)) (kept_1 : OnlyStores start one)
     (kept_2 : OnlyStores one two) (kept_3 : OnlyStores two three)
     (kept_4 : OnlyStores three four) where
-  since : (mid : FilesState) (named : Option (List ℕ)) (told : Option SystemError) →
-      OnlyStores start mid → MaySay mid.may_say named told → MaySay start.may_say named told
-  since mid named told kept =
-      says_as _ mid (λ (may_say : Errors). MaySay may_say named told) kept
+  abbrev Says : FilesState → Out → Type 0
+  Says files out =
+      MaySay files.may_say (output_name (filed files a) out) (error_of errors out)
+
+  since : (mid : FilesState) (out : Out) → OnlyStores start mid → Says mid out → Says start out
+  since mid out kept = subst (λ (files : FilesState). Says files out) kept
 
   -- what the devices of all outputs say, of the errors that could be said at the start
-  pub four_say : MaySay start.may_say (Some a.forward_paired) errors.forward_paired →
-      MaySay one.may_say (Some a.forward_unpaired) errors.forward_unpaired →
-      MaySay two.may_say (Some a.reverse_paired) errors.reverse_paired →
-      MaySay three.may_say (Some a.reverse_unpaired) errors.reverse_unpaired →
-      MaySay four.may_say a.log (unwrap_or errors.log None) → OutputsMaySay a start.may_say errors
+  pub four_say : Says start ForwardPaired → Says one ForwardUnpaired → Says two ReversePaired →
+      Says three ReverseUnpaired → Says four Log →
+      OutputsMaySay (filed start a) start.may_say errors
   four_say first second third fourth log ForwardPaired = first
-  four_say first second third fourth log ForwardUnpaired = since one _ _ kept_1 second
+  four_say first second third fourth log ForwardUnpaired = since one ForwardUnpaired kept_1 second
   four_say first second third fourth log ReversePaired =
-      since two _ _ (then_store start one two kept_1 kept_2) third
+      since two ReversePaired (then_store start one two kept_1 kept_2) third
   four_say first second third fourth log ReverseUnpaired =
-      since three _ _ (then_store start two three (then_store start one two kept_1 kept_2) kept_3)
-      fourth
+      since three ReverseUnpaired
+      (then_store start two three (then_store start one two kept_1 kept_2) kept_3) fourth
   four_say first second third fourth log Log =
       let kept = then_store start two three (then_store start one two kept_1 kept_2) kept_3 in
-      since four _ _ (then_store start three four kept kept_4) log
+      since four Log (then_store start three four kept kept_4) log
 
 module _ (a : Asking) (may_say : Errors) (said : InputsSeen) (errors : Outlets (Option SystemError))
     (unmatched : Option MateNames) (inputs : InputsMaySay a.inputs may_say said)

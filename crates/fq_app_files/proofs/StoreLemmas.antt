@@ -3,20 +3,18 @@ use Rattle.std.proofs.Common.{◌≡◌, ℕ, suc, ◌<◌, ◌==◌, IsTrue, So
 use Rattle.fq_pair.specs.declared.out.Out.{Out}
 use Rattle.fq_pair.specs.declared.out.Out.TheVariants.{ForwardPaired, ForwardUnpaired, ReversePaired, ReverseUnpaired, Log}
 use Rattle.fq_files.specs.Holding.{Holding, KeepsOthers}
-use Rattle.fq_files.specs.States.{FilesState, OnlyStores}
+use Rattle.fq_files.specs.States.{FilesState, OnlyStores, StillHeld}
 use Rattle.fq_text.specs.Devices.{OutletState}
 use Rattle.fq_run_core.specs.Devices.{OutletStates, outlet_at, place}
 use Rattle.fq_app_words.specs.Requests.{Asking, output_name}
-use Rattle.fq_app_files.specs.Trimming.{HasOwnName}
+use Rattle.fq_app_files.specs.Trimming.{filed, AreHeld, HasOwnName, WriteTheirs}
 use Rattle.fq_app_files.specs.Making.{AreStored, HoldFirst, Stored}
 use Rattle.fq_app_files.proofs.RestLemmas.{rest_of, then_rest}
 
--- the file of each output that has a name of its own holds what its outlet has taken, if the
--- outlet's bytes are known
+-- the file of each output that has a name of its own holds what its outlet has taken
 abbrev pub HoldTaken : Asking → OutletStates → Holding → Type 0
 HoldTaken a outlets files = (out : Out) (name : List ℕ) (outlet : OutletState) →
-    HasOwnName a out name → outlet_at out outlets ≡ Some outlet →
-    IsTrue outlet.tells → files name ≡ Some outlet.taken
+    HasOwnName a out name → outlet_at out outlets ≡ Some outlet → files name ≡ Some outlet.taken
 
 -- the output at a place
 out_at : ℕ → Out
@@ -56,41 +54,51 @@ module _ (a : Asking) (states : OutletStates) (old new : Holding) where
   -- one more outlet has been handed back
   next_first : (this : Out) (name : List ℕ) (outlet : OutletState) →
       output_name a this ≡ Some name → outlet_at this states ≡ Some outlet →
-      HoldFirst (place this) a states old → (IsTrue outlet.tells → new name ≡ Some outlet.taken) →
+      HoldFirst (place this) a states old → new name ≡ Some outlet.taken →
       KeepsOthers old new name → HoldFirst (suc (place this)) a states new
   next_first this name outlet named at first stored others =
-      λ out n o below own out_at_is tells. ⊎_elim
+      λ out n o below own out_at_is. ⊎_elim
       (λ before. others n (λ same. let is : this ≡ out =
       own.outputs this (named ∙ ap Some (sym same)) in
       let equal : place this ≡ place out = ap place is in absurd (omega arith))
-      ∙ first out n o before own out_at_is tells)
+      ∙ first out n o before own out_at_is)
       (λ equal. let is : out ≡ this = same_place out this equal in
       let same_name : Some n ≡ Some name = sym own.named ∙ (ap (output_name a) is ∙ named) in
       let same_outlet : Some o ≡ Some outlet = sym out_at_is
       ∙ (ap (λ (x : Out). outlet_at x states) is ∙ at) in
       let n_is : n ≡ name = cc in
       let o_is : o ≡ outlet = cc in
-      let told : IsTrue outlet.tells = let P : OutletState → Type 0 = λ x. IsTrue x.tells in
-      subst P o_is tells in
-      ap new n_is ∙ (stored told ∙ ap (λ (x : OutletState). Some x.taken) (sym o_is)))
+      ap new n_is ∙ (stored ∙ ap (λ (x : OutletState). Some x.taken) (sym o_is)))
       (below_next (place out) (place this) below)
 
 -- one more outlet has been handed back, by a call that keeps the others
-pub one_stored : (a : Asking) (start : Holding) (states : OutletStates) (this : Out) (name : List ℕ)
+pub one_stored : (a : Asking) (start : Holding) (states : OutletStates) (this : Out) (file : List ℕ)
     (outlet : OutletState) (old new : FilesState) →
-    output_name a this ≡ Some name → outlet_at this states ≡ Some outlet
-    → OnlyStores old new →
-    (IsTrue old.tells → IsTrue outlet.tells → new.bytes name ≡ Some outlet.taken) →
-    (IsTrue old.tells → KeepsOthers old.bytes new.bytes name)
+    output_name a this ≡ Some file → outlet_at this states ≡ Some outlet → OnlyStores old new →
+    (IsTrue old.tells → IsTrue (old.writes outlet.file file) →
+    new.bytes file ≡ Some outlet.taken) →
+    (IsTrue old.tells → IsTrue (old.writes outlet.file file) →
+    KeepsOthers old.bytes new.bytes file)
     → Stored a start states (place this) old → Stored a start states (suc (place this)) new
-one_stored a start states this name outlet old new named at only kept others first told =
-    let before = subst IsTrue (ap (λ (files : FilesState). files.tells) only) told in
+one_stored a start states this file outlet old new named at only kept others first told theirs =
+    let before = subst (λ (files : FilesState). IsTrue files.tells) only told in
+    let all = subst (λ (files : FilesState). WriteTheirs a files states) only theirs in
+    let its = all this file outlet named at in
     record {
-      rest = then_rest a start old.bytes new.bytes (first before).rest
-          (rest_of a this name old.bytes new.bytes named (others before));
-      hold = next_first a states old.bytes new.bytes this name outlet named at (first before).hold
-          (kept before) (others before);
+      rest = then_rest a start old.bytes new.bytes (first before all).rest
+          (rest_of a this file old.bytes new.bytes named (others before its));
+      hold = next_first a states old.bytes new.bytes this file outlet named at
+          (first before all).hold (kept before its) (others before its);
     }
+
+-- the file of each output still exists after a call that removes none
+pub still_held : (a : Asking) (old new : FilesState) → OnlyStores old new → StillHeld old new →
+    (IsTrue old.tells → AreHeld (filed old a) old.bytes) →
+    IsTrue new.tells → AreHeld (filed new a) new.bytes
+still_held a old new only still held =
+    let Held : FilesState → Type 0 =
+    λ files. IsTrue files.tells → AreHeld (filed files a) new.bytes in
+    subst Held (sym only) (λ told out file named. still told file (held told out file named))
 
 -- without a log, all outlets are handed back after the fourth
 pub no_log_stored : (a : Asking) (start : Holding) (states : OutletStates) (files : Holding)
@@ -105,7 +113,7 @@ no_log_stored a start states files none stored =
     five first ForwardUnpaired name outlet below = first ForwardUnpaired name outlet (omega arith)
     five first ReversePaired name outlet below = first ReversePaired name outlet (omega arith)
     five first ReverseUnpaired name outlet below = first ReverseUnpaired name outlet (omega arith)
-    five first Log name outlet below = λ own at told. absurd (none name outlet own.named at)
+    five first Log name outlet below = λ own at. absurd (none name outlet own.named at)
 
 -- all five outlets have been handed back
 pub all_hold : (a : Asking) (states : OutletStates) (files : Holding) → HoldFirst 5 a states files →

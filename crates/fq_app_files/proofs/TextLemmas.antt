@@ -1,5 +1,5 @@
 -- What the files of the outputs hold after a run.
-use Rattle.std.proofs.Common.{◌≡◌, ℕ, true, IsTrue, Option, Some, None, is_some, List, ◌++◌, refl, sym, ap, subst, ◌∙◌}
+use Rattle.std.proofs.Common.{◌≡◌, ℕ, true, Option, Some, None, is_some, List, ◌++◌, refl, ap, ◌∙◌}
 use Rattle.fq_pair.specs.declared.out.Out.{Out}
 use Rattle.fq_pair.specs.declared.out.Out.TheVariants.{ForwardPaired, ForwardUnpaired, ReversePaired, ReverseUnpaired, Log}
 use Rattle.fq_files.specs.Holding.{Holding}
@@ -9,23 +9,16 @@ use Rattle.fq_app_words.specs.Requests.{Asking}
 use Rattle.fq_app_files.specs.Trimming.{AreEmpty, HasOwnName, IsEmptyOutlet}
 use Rattle.fq_app_files.proofs.StoreLemmas.{HoldTaken}
 
--- an outlet that has taken this text and nothing else
-record HasText (outlet : OutletState) (text : List ℕ) : Type 0 where
-  tells : IsTrue outlet.tells
-  taken : outlet.taken ≡ text
-
+-- an outlet that was empty has taken this text and nothing else
 text_in : (old new : OutletState) (text : List ℕ) (failed : ℕ) → IsEmptyOutlet old →
-    TookText old new text failed → HasText new text
-text_in old new text failed empty took = record {
-  tells = subst IsTrue (sym took.told) empty.tells;
-  taken = took.bytes empty.tells ∙ ap (λ bytes. bytes ++ text) empty.taken;
-}
+    TookText old new text failed → new.taken ≡ text
+text_in old new text failed empty took =
+    took.bytes empty.tells ∙ ap (λ bytes. bytes ++ text) empty.taken
 
 -- an outlet that exists has taken the text
 found_in : (old new : Option OutletState) (text : List ℕ) (failed : ℕ) →
     ((o : OutletState) → old ≡ Some o → IsEmptyOutlet o) → is_some old ≡ true →
-    Took old new text failed →
-    (o : OutletState) × (new ≡ Some o) × HasText o text
+    Took old new text failed → (o : OutletState) × (new ≡ Some o) × (o.taken ≡ text)
 found_in (Some old) (Some new) text failed empty there took =
     (new, refl, text_in old new text failed (empty old refl) took)
 found_in (Some old) None text failed empty there took = absurd took
@@ -44,23 +37,23 @@ module _ (a : Asking) (old new : OutletStates) (texts : Out → List ℕ) (faile
       let t = text_in old.forward_paired new.forward_paired (texts ForwardPaired)
       (failures_at failed ForwardPaired) (empty ForwardPaired old.forward_paired refl)
       (took ForwardPaired) in
-      holds ForwardPaired name new.forward_paired own refl t.tells ∙ ap Some t.taken
+      holds ForwardPaired name new.forward_paired own refl ∙ ap Some t
   texts_held log empty took holds ForwardUnpaired name own =
       let t = text_in old.forward_unpaired new.forward_unpaired (texts ForwardUnpaired)
       (failures_at failed ForwardUnpaired) (empty ForwardUnpaired old.forward_unpaired refl)
       (took ForwardUnpaired) in
-      holds ForwardUnpaired name new.forward_unpaired own refl t.tells ∙ ap Some t.taken
+      holds ForwardUnpaired name new.forward_unpaired own refl ∙ ap Some t
   texts_held log empty took holds ReversePaired name own =
       let t = text_in old.reverse_paired new.reverse_paired (texts ReversePaired)
       (failures_at failed ReversePaired) (empty ReversePaired old.reverse_paired refl)
       (took ReversePaired) in
-      holds ReversePaired name new.reverse_paired own refl t.tells ∙ ap Some t.taken
+      holds ReversePaired name new.reverse_paired own refl ∙ ap Some t
   texts_held log empty took holds ReverseUnpaired name own =
       let t = text_in old.reverse_unpaired new.reverse_unpaired (texts ReverseUnpaired)
       (failures_at failed ReverseUnpaired) (empty ReverseUnpaired old.reverse_unpaired refl)
       (took ReverseUnpaired) in
-      holds ReverseUnpaired name new.reverse_unpaired own refl t.tells ∙ ap Some t.taken
+      holds ReverseUnpaired name new.reverse_unpaired own refl ∙ ap Some t
   texts_held log empty took holds Log name own =
       let t = found_in old.log new.log (texts Log) (failures_at failed Log) (empty Log) (log
       ∙ there_is a.log name own.named) (took Log) in
-      holds Log name t.0 own t.1 t.2.tells ∙ ap Some t.2.taken
+      holds Log name t.0 own t.1 ∙ ap Some t.2

@@ -13,7 +13,7 @@ use Rattle.fq_run_core.specs.Endings.{ends_whole, failures_in}
 use Rattle.fq_app_words.specs.Requests.{Asking, InputNames, input_name, output_name}
 use Rattle.fq_app_files.specs.Faults.{settled}
 use Rattle.fq_app_files.specs.Judging.{settings_of}
-use Rattle.fq_app_files.specs.Trimming.{IsEmptyOutlet, KeepsUnnamed, TrimsFiles}
+use Rattle.fq_app_files.specs.Trimming.{IsEmptyOutlet, KeepsUnnamed, TrimsFiles, WritesReport}
 use Rattle.fq_app_files.specs.Leaving.{HoldFirstPairs}
 use Rattle.fq_app_files.specs.Reporting.{IsDue, IsNotDue, KeepsOutputs, ReportHeld, TookReport}
 use Rattle.fq_app_files.specs.Seeing.{IsItsError, IsSaid}
@@ -22,10 +22,10 @@ use Rattle.fq_app_files.specs.declared.seeing.EndingSeen.{EndingSeen}
 use Rattle.fq_app_files.specs.declared.reporting.Reported.{Reported}
 use Rattle.fq_app_files.specs.declared.reporting.Reported.TheVariants as became
 
--- the feed of this name was handed back, if the run returned it
-pub record IsFeedCounted (name : List ℕ)
+-- the feed of this file was handed back, if the run returned it
+pub record IsFeedCounted (file : List ℕ)
     (left : Option FeedState) (old new : FilesState) : Type 0 where
-  pub failed : 0 < failures_in left → IsTrue (new.has_failed name)
+  pub failed : 0 < failures_in left → IsTrue (new.has_failed file)
   pub sound : failures_in left ≡ 0 → new.has_failed ≡ old.has_failed
   pub still : KeepsFailed old new
 
@@ -61,17 +61,18 @@ pub record IsWitnessed (account : Account) : Type 0 where
 abbrev pub ReportFailed : Asking → FilesState → Type 0
 ReportFailed a files = (name : List ℕ) × (a.report ≡ Some name) × IsTrue (files.has_failed name)
 
--- The report's outlet was handed back. Given are what was asked for, the run, the outlet before the
--- report was written, what became of the report, and the files before and after.
-pub record IsReportStored (a : Asking) (encoding : Encoding) (account : Account)
+-- The report's outlet was handed back. Given are what was asked for, by names and by files, the
+-- run, the outlet before the report was written, what became of the report, and the files before
+-- and after.
+pub record IsReportStored (a f : Asking) (encoding : Encoding) (account : Account)
     (outlet : Option OutletState) (reported : Reported) (old new : FilesState) : Type 0 where
   pub due : reported ≢ became.NotDue → IsDue account.outcome
   pub not_due : reported ≡ became.NotDue → IsSome a.report → IsNotDue account.outcome
   pub took : IsTrue old.tells → IfSome outlet IsEmptyOutlet →
-      (name : List ℕ) → a.report ≡ Some name → (bytes : List ℕ)
-      × (new.bytes name ≡ Some bytes) × TookReport reported a encoding account [] bytes
-  pub others : KeepsOutputs a old new
-  pub failed : reported ≡ became.Failed → ReportFailed a new
+      WritesReport f old outlet → (file : List ℕ) → f.report ≡ Some file → (bytes : List ℕ)
+      × (new.bytes file ≡ Some bytes) × TookReport reported a encoding account [] bytes
+  pub others : WritesReport f old outlet → KeepsOutputs f old new
+  pub failed : reported ≡ became.Failed → ReportFailed f new
   pub sound : reported ≢ became.Failed → new.has_failed ≡ old.has_failed
   pub still : KeepsFailed old new
   -- If the run ended whole, a report that is written is flushed.
@@ -79,31 +80,31 @@ pub record IsReportStored (a : Asking) (encoding : Encoding) (account : Account)
       (reported ≡ became.NotDue) ⊎ (reported ≡ became.Written) →
       new.is_unflushed ≡ old.is_unflushed
 
--- A run was made. Given are the files before and after it, its outcome, its counts, what became of
--- its report, and what is said of its outcome.
-pub record IsCompleted (a : Asking) (old new : FilesState)
+-- A run was made. Given are what was asked for, by names and by files, the files before and after
+-- it, its outcome, its counts, what became of its report, and what is said of its outcome.
+pub record IsCompleted (a f : Asking) (old new : FilesState)
     (outcome : Outcome) (counts : Counts) (reported : Reported) (seen : EndingSeen) : Type 0 where
   -- If it ended whole, all pairs were trimmed.
   pub trims : IsTrue old.tells →
-      IsTrue (ends_whole outcome) → TrimsFiles a old.bytes new.bytes outcome counts
+      IsTrue (ends_whole outcome) → TrimsFiles f old.bytes new.bytes outcome counts
   -- At every ending except an unconfirmed lane, the files of the outputs hold the texts of the
   -- first pairs.
   pub ended : IsTrue old.tells →
-      outcome ≢ Lane → HoldFirstPairs a old.bytes new.bytes outcome
-  pub rest : IsTrue old.tells → KeepsUnnamed a old.bytes new.bytes
+      outcome ≢ Lane → HoldFirstPairs f old.bytes new.bytes outcome
+  pub rest : IsTrue old.tells → KeepsUnnamed f old.bytes new.bytes
   -- If the run ended whole, the report covers the pairs of the inputs; at other endings its file is
   -- empty.
   pub due : reported ≢ became.NotDue → IsDue outcome
   pub not_due : reported ≡ became.NotDue → IsSome a.report → IsNotDue outcome
-  pub report : IsTrue old.tells → (name : List ℕ) →
-      a.report ≡ Some name → ReportHeld reported a old.bytes new.bytes name
+  pub report : IsTrue old.tells → (file : List ℕ) →
+      f.report ≡ Some file → ReportHeld reported a f old.bytes new.bytes file
   -- A failure that is reported is one of the device that the message names. If no failure is
   -- reported, no device has failed.
-  pub failed : outcome ≢ Lane → HasFailed a old new outcome
+  pub failed : outcome ≢ Lane → HasFailed f old new outcome
   pub as_it_is : IsTrue old.tells → settled outcome ≡ outcome
-  pub said : IsTrue old.tells → IsSaid a.inputs old.bytes (settled outcome) seen
-  pub its_error : IsItsError a old.may_say outcome seen
-  pub report_failed : reported ≡ became.Failed → ReportFailed a new
+  pub said : IsTrue old.tells → IsSaid old.looks f old.bytes (settled outcome) seen
+  pub its_error : IsItsError f old.may_say outcome seen
+  pub report_failed : reported ≡ became.Failed → ReportFailed f new
   pub sound : IsTrue (ends_whole outcome) → reported ≢ became.Failed →
       new.has_failed ≡ old.has_failed
   -- If it ended whole, each output was flushed, and so was the report if it was written.

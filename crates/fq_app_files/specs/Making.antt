@@ -9,7 +9,7 @@ use Rattle.fq_run_core.specs.Devices.{OutletStates, AreFlushed, AreHealthy, outl
 use Rattle.fq_app_words.specs.Requests.{Asking, output_name}
 use Rattle.fq_app_files.specs.declared.refusal.Refusal.{Refusal}
 use Rattle.fq_app_files.specs.Refusals.{status_of, IsMemory, IsRefusable, IsTarget}
-use Rattle.fq_app_files.specs.Trimming.{HasOwnName, KeepsRest, AreEmpty, IsEmptyOutlet}
+use Rattle.fq_app_files.specs.Trimming.{HasOwnName, KeepsRest, AreEmpty, IsEmptyOutlet, WriteTheirs}
 use Rattle.fq_app_files.specs.Leaving.{RefusalLeaves, is_late}
 
 -- the first n outputs have been made, and a name that only the others have, or none, is unchanged
@@ -37,6 +37,7 @@ pub record AreOutputsMade (a : Asking)
   pub healthy : AreHealthy outlets
   pub log : is_some outlets.log ≡ is_some a.log
   pub empty : IsTrue old.tells → AreEmpty outlets
+  pub theirs : IsTrue old.tells → WriteTheirs a old outlets
   pub made : Made a old.bytes 5 new
 
 -- An output or memory for it was refused: what its refusal says, and what the files then hold.
@@ -51,6 +52,8 @@ pub record IsOutputMade (a : Asking) (out : Out)
     (old new : FilesState) (outlet : OutletState) : Type 0 where
   pub fresh : outlet.failures ≡ 0
   pub empty : IsTrue old.tells → IsEmptyOutlet outlet
+  pub theirs : IsTrue old.tells → (file : List ℕ) → output_name a out ≡ Some file →
+      IsTrue (old.writes outlet.file file)
   pub made : (start : Holding) → Made a start (place out) old → Made a start (suc (place out)) new
 
 -- The next output or memory for it was refused.
@@ -64,8 +67,7 @@ pub record IsOutputRefused (a : Asking) (out : Out)
 -- those of the first n outputs that have a name of their own hold what their outlets have taken
 abbrev pub HoldFirst : ℕ → Asking → OutletStates → Holding → Type 0
 HoldFirst n a states files = (out : Out) (name : List ℕ) (outlet : OutletState) → place out < n →
-    HasOwnName a out name → outlet_at out states ≡ Some outlet →
-    IsTrue outlet.tells → files name ≡ Some outlet.taken
+    HasOwnName a out name → outlet_at out states ≡ Some outlet → files name ≡ Some outlet.taken
 
 -- the outlets of the first n outputs have been handed back
 pub record AreStored (a : Asking) (start : Holding)
@@ -73,9 +75,11 @@ pub record AreStored (a : Asking) (start : Holding)
   pub rest : KeepsRest a start files
   pub hold : HoldFirst n a states files
 
--- the outlets of the first n outputs have been handed back, if the bytes of the files are known
+-- the outlets of the first n outputs have been handed back, if the bytes of the files are known and
+-- each outlet writes its file
 abbrev pub Stored : Asking → Holding → OutletStates → ℕ → FilesState → Type 0
-Stored a start states n files = IsTrue files.tells → AreStored a start states n files.bytes
+Stored a start states n files = IsTrue files.tells → WriteTheirs a files states →
+    AreStored a start states n files.bytes
 
 -- the first n outlets of the outputs were handed back
 pub record AreCounted (a : Asking)

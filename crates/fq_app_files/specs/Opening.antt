@@ -12,7 +12,7 @@ use Rattle.fq_app_words.specs.Requests.{Asking, InputNames, input_name, is_input
 use Rattle.fq_app_files.specs.declared.refusal.Refusal.{Refusal}
 use Rattle.fq_app_files.specs.declared.refusal.Refusal.TheVariants as refusal
 use Rattle.fq_app_files.specs.Refusals.{status_of, IsMemory, IsRefusable, IsReport}
-use Rattle.fq_app_files.specs.Trimming.{Opened, IsNoOutput, KeepsUnnamed, IsFed, AreFresh, AreFed, AreEmpty, IsEmptyOutlet, AreHeld}
+use Rattle.fq_app_files.specs.Trimming.{Opened, IsNoOutput, KeepsUnnamed, IsFed, AreFresh, AreFed, AreEmpty, IsEmptyOutlet, AreHeld, WriteTheirs, WritesReport}
 use Rattle.fq_app_files.specs.Leaving.{AreThere, TellsInputs, RefusalLeaves, ReportLeft, is_early}
 use Rattle.fq_app_files.specs.Reporting.{IsReportOpen}
 
@@ -48,6 +48,7 @@ pub record IsReportMade (a : Asking)
     (files : FilesState) (report : Option OutletState) : Type 0 where
   pub opened : IsReportOpen a files report
   pub empty : IsTrue files.tells → IfSome report IsEmptyOutlet
+  pub theirs : IsTrue files.tells → WritesReport a files report
 
 -- The report's file or memory for it was refused: the file holds what it held, or nothing.
 pub record IsReportRefused (a : Asking) (why : Refusal) (old new : FilesState) : Type 0 where
@@ -65,22 +66,36 @@ pub record AreReady (a : Asking) (files : FilesState)
   pub healthy : AreHealthy outlets
   pub log : is_some outlets.log ≡ is_some a.log
   pub empty : IsTrue files.tells → AreEmpty outlets
+  pub theirs : IsTrue files.tells → WriteTheirs a files outlets
   pub there : IsTrue files.tells → AreThere a.inputs files.bytes
   pub held : IsTrue files.tells → AreHeld a files.bytes
   pub report_made : IsReportMade a files report
+
+-- no file of an input is that of an output or of the report
+abbrev pub AreNoInputs : Asking → Type 0
+AreNoInputs a = (side : Side) → IsNoOutput a (input_name a.inputs side)
+    × (a.report ≢ Some (input_name a.inputs side))
 
 -- The devices are ready, the feeds have the bytes of the inputs, and no other file has changed.
 pub record AreOpened (a : Asking) (old new : FilesState)
     (inputs : Opened) (outlets : OutletStates) (report : Option OutletState) : Type 0 where
   pub ready : AreReady a new inputs outlets report
   pub fed : IsTrue old.tells → AreFed inputs a.inputs old.bytes
+  pub apart : IsTrue old.tells → AreNoInputs a
   pub rest : IsTrue old.tells → KeepsUnnamed a old.bytes new.bytes
 
--- A name may be refused for this cause once these inputs are opened: it is the name of one, and
--- that is the cause; or it might have been before.
+-- A file may be refused for this cause once these inputs are opened: it is that of one, and that is
+-- the cause; or it might have been before.
 abbrev pub MayLead : InputNames → FilesState → List ℕ → Cause → Type 0
-MayLead inputs old name cause = ((cause ≡ Input) × IsTrue (is_input inputs name))
-    ⊎ MayRefuse old name cause
+MayLead inputs old file cause = ((cause ≡ Input) × IsTrue (is_input inputs file))
+    ⊎ MayRefuse old file cause
+
+-- A name may be refused for this cause: its file might have been before, or is that of an input of
+-- another name. Given are the names of the inputs, and their files.
+abbrev pub MayRefuseName : InputNames → InputNames → FilesState → List ℕ → Cause → Type 0
+MayRefuseName names inputs old name cause =
+    ((is_input names name ≡ false) × (cause ≡ Input) × IsTrue (is_input inputs (old.leads name)))
+    ⊎ MayRefuse old (old.leads name) cause
 
 -- this is the name of an output or of the report
 abbrev pub IsMade : Asking → List ℕ → Type 0
@@ -97,12 +112,13 @@ AreApart a files = (out : Out) (name : List ℕ) → output_name a out ≡ Some 
     files.is_open name ≡ false
 
 -- A call was refused for this reason: what the reason says, and what the call leaves in the files.
-pub record IsRefused (a : Asking) (why : Refusal) (old new : FilesState) : Type 0 where
-  pub refused : IsRefusable a (MayRefuse old) why
-  pub inputs : IsTrue old.tells → TellsInputs a.inputs why old
-  pub left : IsTrue old.tells → RefusalLeaves a why old.bytes new.bytes
-  pub report_left : IsTrue old.tells → (name : List ℕ) → a.report ≡ Some name →
-      IsNoOutput a name → ReportLeft why (old.bytes name) (new.bytes name)
+-- Given is what was asked for, by names and by files.
+pub record IsRefused (a f : Asking) (why : Refusal) (old new : FilesState) : Type 0 where
+  pub refused : IsRefusable a (MayRefuseName a.inputs f.inputs old) why
+  pub inputs : IsTrue old.tells → TellsInputs f.inputs why old
+  pub left : IsTrue old.tells → RefusalLeaves f why old.bytes new.bytes
+  pub report_left : IsTrue old.tells → (file : List ℕ) → f.report ≡ Some file →
+      IsNoOutput f file → ReportLeft why (old.bytes file) (new.bytes file)
 
 -- A file or memory was refused after the request was checked.
 pub record IsUnopened (a : Asking) (why : Refusal) (old new : FilesState) : Type 0 where

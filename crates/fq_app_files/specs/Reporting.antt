@@ -64,36 +64,37 @@ abbrev pub report_of : Asking → Choices → Pairs → List ℕ
 report_of a c all = text_of (run_facts a c.encoding
     (trimmed_outcome all.fault) (counts_of c.steps all.mates) (tally_of (alone c.steps) all.mates))
 
--- the report that is defined for the bytes of the inputs and for the request
-pub record IsReport (a : Asking) (old : Holding) (text : List ℕ) : Type 0 where
+-- the report that is defined for the bytes of the inputs and for the request; given are the names,
+-- and the files that they lead to
+pub record IsReport (a f : Asking) (old : Holding) (text : List ℕ) : Type 0 where
   pub choices : Choices
   pub forward : List ℕ
   pub reverse : List ℕ
   pub settings : settings_of a ≡ Ok choices
-  pub forward_is : old a.inputs.forward ≡ Some forward
-  pub reverse_is : old a.inputs.reverse ≡ Some reverse
+  pub forward_is : old f.inputs.forward ≡ Some forward
+  pub reverse_is : old f.inputs.reverse ≡ Some reverse
   pub text_is : text ≡ report_of a choices (pairs_of choices a.inputs.form forward reverse)
 
 -- What the file of the report holds.
 
 -- the file holds the whole report
-pub record HoldsReport (a : Asking) (old new : Holding) (name : List ℕ) : Type 0 where
+pub record HoldsReport (a f : Asking) (old new : Holding) (file : List ℕ) : Type 0 where
   pub text : List ℕ
-  pub is : IsReport a old text
-  pub held : new name ≡ Some text
+  pub is : IsReport a f old text
+  pub held : new file ≡ Some text
 
 -- the file holds a first part of the report
-pub record BeginsReport (a : Asking) (old new : Holding) (name : List ℕ) : Type 0 where
+pub record BeginsReport (a f : Asking) (old new : Holding) (file : List ℕ) : Type 0 where
   pub text : List ℕ
   pub count : ℕ
-  pub is : IsReport a old text
-  pub held : new name ≡ Some (take count text)
+  pub is : IsReport a f old text
+  pub held : new file ≡ Some (take count text)
 
 -- what the file holds; it is empty if no report was due or memory was refused
-abbrev pub ReportHeld : Reported → Asking → Holding → Holding → List ℕ → Type 0
-ReportHeld Written a old new name = HoldsReport a old new name
-ReportHeld Failed a old new name = BeginsReport a old new name
-ReportHeld _ a old new name = new name ≡ Some []
+abbrev pub ReportHeld : Reported → Asking → Asking → Holding → Holding → List ℕ → Type 0
+ReportHeld Written a f old new file = HoldsReport a f old new file
+ReportHeld Failed a f old new file = BeginsReport a f old new file
+ReportHeld _ a f old new file = new file ≡ Some []
 
 -- How the report is written.
 
@@ -149,21 +150,21 @@ pub record IsReportWritten (a : Asking) (encoding : Encoding) (account : Account
     (reported : Reported) (old new : OutletState) : Type 0 where
   pub due : reported ≢ NotDue → IsDue account.outcome
   pub not_due : reported ≡ NotDue → IsNotDue account.outcome
-  pub took : IsTrue old.tells → TookReport reported a encoding account old.taken new.taken
+  pub took : IsSome old.file → TookReport reported a encoding account old.taken new.taken
   pub sound : reported ≢ Failed → new.failures ≡ 0
   pub failed : reported ≡ Failed → new.failures ≢ 0
   pub flushed : reported ≡ Written → IsTrue new.is_flushed
-  pub told : new.tells ≡ old.tells
+  pub told : new.file ≡ old.file
 
 -- an outlet has taken this text, and was flushed
 pub record IsSent (text : List ℕ) (old new : OutletState) : Type 0 where
-  pub taken : IsTrue old.tells → new.taken ≡ old.taken ++ text
+  pub taken : IsSome old.file → new.taken ≡ old.taken ++ text
   pub sound : new.failures ≡ 0
   pub flushed : IsTrue new.is_flushed
-  pub told : new.tells ≡ old.tells
+  pub told : new.file ≡ old.file
 
 -- an outlet has failed, and has taken a first part of this text
 pub record IsSentInPart (text : List ℕ) (old new : OutletState) : Type 0 where
-  pub taken : IsTrue old.tells → (count : ℕ) × (new.taken ≡ old.taken ++ take count text)
+  pub taken : IsSome old.file → (count : ℕ) × (new.taken ≡ old.taken ++ take count text)
   pub failed : new.failures ≢ 0
-  pub told : new.tells ≡ old.tells
+  pub told : new.file ≡ old.file

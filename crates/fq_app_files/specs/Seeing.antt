@@ -1,5 +1,5 @@
 -- What can be said of the outcome of a run.
-use Rattle.std.specs.Prelude.{◌≡◌, ◌≢◌, ℕ, IsSome, Option, Some, None, List, unwrap_or}
+use Rattle.std.specs.Prelude.{◌≡◌, ◌≢◌, ℕ, Bool, IsSome, IsTrue, Option, Some, None, Ok, List, unwrap_or}
 use Rattle.fq_text.specs.Devices.{FeedState, OutletState}
 use Rattle.fq_text.specs.declared.fault.TextFault.{TextFault}
 use Rattle.fq_text.specs.Looks.{look_of}
@@ -17,6 +17,9 @@ use Rattle.fq_pair.specs.declared.side.Side.{Side}
 use Rattle.fq_pair.specs.declared.side.Side.TheVariants.{Forward, Reverse}
 use Rattle.fq_pair.specs.declared.fault.InputFault.TheVariants.{Text, NamesDiffer}
 use Rattle.fq_pair.specs.Mates.{MateNames}
+use Rattle.fq_pair.specs.Forms.{names_of_pair}
+use Rattle.fq_run_core.specs.Choices.{Choices}
+use Rattle.fq_app_files.specs.Judging.{settings_of}
 use Rattle.fq_run_core.specs.declared.outcome.Outcome.{Outcome}
 use Rattle.fq_run_core.specs.declared.outcome.Outcome.TheVariants.{Write, Read, Input}
 use Rattle.fq_run_core.specs.declared.outlets.Outlets.{Outlets}
@@ -55,15 +58,24 @@ OutputsTellWhy a outlets errors = (out : Out) (name : List ℕ) (outlet : Outlet
     output_name a out ≡ Some name → outlet_at out outlets ≡ Some outlet →
     TellsWhy outlet.failures (error_of errors out)
 
+-- if names that differ ended the run, these are the names of the pair with that number
+abbrev pub AreNamesOfPair : Asking → Holding → Outcome → Option MateNames → Type 0
+AreNamesOfPair f files outcome names =
+    (k : ℕ) (these : MateNames) (c : Choices) (forward reverse : List ℕ) →
+    outcome ≡ Input (NamesDiffer k) → names ≡ Some these → settings_of f ≡ Ok c →
+    files f.inputs.forward ≡ Some forward → files f.inputs.reverse ≡ Some reverse →
+    names_of_pair k f.inputs.form c.encoding forward reverse ≡ Some these
+
 -- what is said of an input whose text has a fault: it looks like its first bytes, and no error is
--- told of it
-pub record IsSaid (names : InputNames) (files : Holding) (outcome : Outcome)
+-- told of it; and names that are told are those that differ
+pub record IsSaid (looks : Bool) (f : Asking) (files : Holding) (outcome : Outcome)
     (seen : EndingSeen) : Type 0 where
-  pub look : (side : Side) (fault : TextFault) (bytes : List ℕ) →
-      outcome ≡ Input (Text side fault) → files (input_name names side) ≡ Some bytes →
+  pub look : IsTrue looks → (side : Side) (fault : TextFault) (bytes : List ℕ) →
+      outcome ≡ Input (Text side fault) → files (input_name f.inputs side) ≡ Some bytes →
       seen.look ≡ look_of bytes
   pub no_error : (side : Side) (fault : TextFault) → outcome ≡ Input (Text side fault) →
       seen.error ≡ None
+  pub named : AreNamesOfPair f files outcome seen.unmatched
 
 -- the file that an outcome names: the output that was not written, or the input that could not be
 -- read or has a fault

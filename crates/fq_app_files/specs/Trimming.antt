@@ -2,6 +2,7 @@
 use Rattle.std.specs.Prelude.{◌≡◌, ◌≢◌, ℕ, Bool, IsTrue, IsSome, Option, Some, None, Ok, List, []}
 use Rattle.std.specs.Option.{option_map}
 use Rattle.fq_files.specs.Holding.{Holding}
+use Rattle.fq_files.specs.States.{FilesState}
 use Rattle.fq_pair.specs.declared.out.Out.{Out}
 use Rattle.fq_pair.specs.declared.side.Side.{Side}
 use Rattle.fq_pair.specs.declared.side.Side.TheVariants.{Forward, Reverse}
@@ -14,11 +15,15 @@ use Rattle.fq_run_core.specs.declared.outcome.Outcome.{Outcome}
 use Rattle.fq_text.specs.Devices.{FeedState, OutletState}
 use Rattle.fq_run_core.specs.Devices.{OutletStates, OutletsTook, outlet_at}
 use Rattle.fq_run_core.specs.Endings.{Run, trimmed_outcome}
-use Rattle.fq_app_words.specs.Requests.{Asking, InputNames, output_name}
+use Rattle.fq_app_words.specs.Requests.{Asking, InputNames, by_file, output_name}
 use Rattle.fq_app_files.specs.Judging.{settings_of}
 use Rattle.fq_app_files.specs.declared.account.Account.{Account}
 use Rattle.fq_app_files.specs.declared.feeds.Feeds.{Feeds}
 use Rattle.fq_app_files.specs.declared.feeds.Feeds.TheVariants.{Apart, Interleaved}
+
+-- the request, with the key of the file that each name leads to in place of the name
+abbrev pub filed : FilesState → Asking → Asking
+filed files a = by_file files.leads a
 
 -- this is the name of this output, and of no other file that is made: neither of another output nor
 -- of the report
@@ -46,13 +51,24 @@ AreHeld a files = (out : Out) (name : List ℕ) → output_name a out ≡ Some n
 
 -- an outlet whose bytes are known to the proof, and that has taken none
 pub record IsEmptyOutlet (outlet : OutletState) : Type 0 where
-  pub tells : IsTrue outlet.tells
+  pub tells : IsSome outlet.file
   pub taken : outlet.taken ≡ []
 
 -- the bytes of each outlet are known, and it has taken none
 abbrev pub AreEmpty : OutletStates → Type 0
 AreEmpty outlets = (out : Out) (outlet : OutletState) →
     outlet_at out outlets ≡ Some outlet → IsEmptyOutlet outlet
+
+-- what each outlet takes is in the file of its output once the outlet is handed back
+abbrev pub WriteTheirs : Asking → FilesState → OutletStates → Type 0
+WriteTheirs a files outlets = (out : Out) (file : List ℕ) (outlet : OutletState) →
+    output_name a out ≡ Some file → outlet_at out outlets ≡ Some outlet →
+    IsTrue (files.writes outlet.file file)
+
+-- so it is with the outlet of the report
+abbrev pub WritesReport : Asking → FilesState → Option OutletState → Type 0
+WritesReport a files report = (file : List ℕ) (outlet : OutletState) → a.report ≡ Some file →
+    report ≡ Some outlet → IsTrue (files.writes outlet.file file)
 
 -- the bytes of an input are known, and are those of its file
 pub record IsFed (tells : Bool) (to_come : List ℕ) (bytes : Option (List ℕ)) : Type 0 where

@@ -1,11 +1,11 @@
 //! Opens the inputs, and hands their feeds back after the run.
 
-ghost use Rattle.std.specs.Prelude.{◌≡◌, ◌≢◌, ℕ, List, Some, None, IsTrue, IsSome, IfOk, IfErr};
+ghost use Rattle.std.specs.Prelude.{◌≡◌, ◌≢◌, ℕ, List, Some, None, IsTrue, IsSome, IfOk, OnOk, IfErr};
 ghost use Rattle.std.specs.Option.{option_map};
 ghost use Rattle.fq_files.specs.States.{MayRefuse, MaySay, OnlyFails, OnlyOpens, TellsWhy};
 ghost use Rattle.fq_files.specs.declared.files.Cause.TheVariants.{Input};
 ghost use Rattle.fq_app_words.specs.Requests.{asking_of, input_name};
-ghost use Rattle.fq_app_files.specs.Trimming.{opened_of, left_of, form_of};
+ghost use Rattle.fq_app_files.specs.Trimming.{filed, opened_of, left_of, form_of};
 ghost use Rattle.fq_app_files.specs.Leaving.{AreThere};
 ghost use Rattle.fq_app_files.specs.Opening.{AreInputsOpened, AreInputsRefused, IsInputOpened, IsInputRefused, MayLead};
 ghost use Rattle.fq_app_files.specs.Completing.{IsFeedCounted, AreFeedsCounted};
@@ -43,13 +43,18 @@ pub(crate) fn inputs<T: Files>(
     request: &Request<'_>,
     files: &mut T,
 ) -> Result<Feeds<T::In>, Refusal>
-    ensures opened { IfOk result (λ feeds. AreInputsOpened (asking_of request.now).inputs
+    ensures opened { IfOk result (λ feeds. AreInputsOpened
+        (filed (T.state files.old) (asking_of request.now)).inputs
         (T.state files.old) (opened_of T.In.state feeds)) }
     ensures refused { IfErr result (λ why.
-        AreInputsRefused (asking_of request.now).inputs why (T.state files.old)) }
+        AreInputsRefused (filed (T.state files.old) (asking_of request.now)).inputs
+        why (T.state files.old)) }
     ensures kept { OnlyOpens (T.state files.old) (T.state files.new) }
+    ensures open { OnOk result ((side : Side) → IsTrue ((T.state files.new).is_open
+        (input_name (filed (T.state files.old) (asking_of request.now)).inputs side))) }
     ensures linked { (name : List ℕ) → IsTrue ((T.state files.new).is_open name)
-        → MayLead (asking_of request.now).inputs (T.state files.old) name Input }
+        → MayLead (filed (T.state files.old) (asking_of request.now)).inputs
+        (T.state files.old) name Input }
 {
     let feeds = match request.inputs {
         Inputs::Apart { .. } => {
@@ -68,11 +73,18 @@ pub(crate) fn inputs<T: Files>(
 // Opens the input of a side.
 fn input<T: Files>(request: &Request<'_>, files: &mut T, side: Side) -> Result<T::In, Refusal>
     ensures opened { IfOk result (λ feed. IsInputOpened
-        (input_name (asking_of request.now).inputs side) (T.state files.old) (T.In.state feed)) }
+        (input_name (filed (T.state files.old) (asking_of request.now)).inputs side)
+        (T.state files.old) (T.In.state feed)) }
     ensures refused { IfErr result (λ why.
-        IsInputRefused (asking_of request.now).inputs side why (T.state files.old)) }
+        IsInputRefused (filed (T.state files.old) (asking_of request.now)).inputs
+        side why (T.state files.old)) }
     ensures kept { OnlyOpens (T.state files.old) (T.state files.new) }
-    ensures linked { (other : List ℕ) → other ≢ input_name (asking_of request.now).inputs side
+    ensures open { OnOk result (IsTrue ((T.state files.new).is_open
+        (input_name (filed (T.state files.old) (asking_of request.now)).inputs side))) }
+    ensures remains { (other : List ℕ) → IsTrue ((T.state files.old).is_open other)
+        → IsTrue ((T.state files.new).is_open other) }
+    ensures linked { (other : List ℕ)
+        → other ≢ input_name (filed (T.state files.old) (asking_of request.now)).inputs side
         → IsTrue ((T.state files.new).is_open other)
         → MayRefuse (T.state files.old) other Input }
 {
@@ -89,16 +101,18 @@ pub fn inputs_done<T: Files>(
     feeds: Feeds<Option<T::In>>,
 ) -> InputsSeen
     requires there { IsTrue (T.state files.old).tells
-        → AreThere (asking_of request.now).inputs (T.state files.old).bytes }
+        → AreThere (filed (T.state files.old) (asking_of request.now)).inputs
+        (T.state files.old).bytes }
     requires form { form_of feeds ≡ (asking_of request.now).inputs.form }
     ensures kept { OnlyFails (T.state files.old) (T.state files.new) }
-    ensures counted { AreFeedsCounted (asking_of request.now).inputs
+    ensures counted { AreFeedsCounted (filed (T.state files.old) (asking_of request.now)).inputs
         (left_of T.In.state feeds) (T.state files.old) (T.state files.new) }
-    ensures looks { IsTrue (T.state files.old).tells
-        → LookAsTheyAre (asking_of request.now).inputs (T.state files.old).bytes
-        (left_of T.In.state feeds) result }
+    ensures looks { IsTrue (T.state files.old).looks
+        → LookAsTheyAre (filed (T.state files.old) (asking_of request.now)).inputs
+        (T.state files.old).bytes (left_of T.In.state feeds) result }
     ensures why { InputsTellWhy (left_of T.In.state feeds) result }
-    ensures says { InputsMaySay (asking_of request.now).inputs (T.state files.old).may_say result }
+    ensures says { InputsMaySay (filed (T.state files.old) (asking_of request.now)).inputs
+        (T.state files.old).may_say result }
 {
     match feeds {
         Feeds::Apart { forward, reverse } => {
@@ -124,17 +138,21 @@ fn input_done<T: Files>(
     feed: Option<T::In>,
 ) -> Seen
     requires { IsTrue (T.state files.old).tells
-        → AreThere (asking_of request.now).inputs (T.state files.old).bytes }
+        → AreThere (filed (T.state files.old) (asking_of request.now)).inputs
+        (T.state files.old).bytes }
     ensures kept { OnlyFails (T.state files.old) (T.state files.new) }
-    ensures counted { IsFeedCounted (input_name (asking_of request.now).inputs side)
+    ensures counted { IsFeedCounted
+        (input_name (filed (T.state files.old) (asking_of request.now)).inputs side)
         (option_map T.In.state feed) (T.state files.old) (T.state files.new) }
-    ensures looks { IsTrue (T.state files.old).tells → (bytes : List ℕ)
+    ensures looks { IsTrue (T.state files.old).looks → (bytes : List ℕ)
         → IsSome (option_map T.In.state feed)
-        → (T.state files.old).bytes (input_name (asking_of request.now).inputs side) ≡ Some bytes
+        → (T.state files.old).bytes
+        (input_name (filed (T.state files.old) (asking_of request.now)).inputs side) ≡ Some bytes
         → result.look ≡ look_of bytes }
     ensures why { TellsWhy (failures_in (option_map T.In.state feed)) result.error }
     ensures says { MaySay (T.state files.old).may_say
-        (Some (input_name (asking_of request.now).inputs side)) result.error }
+        (Some (input_name (filed (T.state files.old) (asking_of request.now)).inputs side))
+        result.error }
 {
     match feed {
         Some(feed) => files.source_done(request.input_name(side), feed),

@@ -5,7 +5,7 @@ ghost use Rattle.std.specs.Option.{option_map};
 ghost use Rattle.fq_files.specs.States.{IsSound};
 ghost use Rattle.fq_run_core.specs.Devices.{outlet_states};
 ghost use Rattle.fq_app_words.specs.Requests.{asking_of};
-ghost use Rattle.fq_app_files.specs.Trimming.{opened_of};
+ghost use Rattle.fq_app_files.specs.Trimming.{filed, opened_of};
 ghost use Rattle.fq_app_files.specs.Refusals.{IsRefusable};
 ghost use Rattle.fq_app_files.specs.Opening.{AreApart, AreOpened, IsUnopened, SparesInputs};
 
@@ -32,12 +32,14 @@ pub fn open<T: Files>(
     request: &Request<'_>,
     files: &mut T,
 ) -> Result<Devices<T::In, T::Target>, Refusal>
-    ensures opened { IfOk result (λ devices. AreOpened (asking_of request.now)
+    ensures opened { IfOk result (λ devices. AreOpened
+        (filed (T.state files.old) (asking_of request.now))
         (T.state files.old) (T.state files.new) (opened_of T.In.state devices.feeds)
         (outlet_states T.Target.state devices.outlets) (option_map T.Target.state devices.report)) }
     ensures unopened { IfErr result (λ why.
-        IsUnopened (asking_of request.now) why (T.state files.old) (T.state files.new)) }
-    ensures spared { SparesInputs (asking_of request.now)
+        IsUnopened (filed (T.state files.old) (asking_of request.now))
+        why (T.state files.old) (T.state files.new)) }
+    ensures spared { SparesInputs (filed (T.state files.old) (asking_of request.now))
         (IsErr result) (T.state files.old) (T.state files.new) }
     ensures sound { IsSound (T.state files.old) (T.state files.new) }
 {
@@ -60,8 +62,9 @@ pub fn open<T: Files>(
 // Returns the first output that leads to an input.
 fn input_among_outputs<T: Files>(request: &Request<'_>, files: &T) -> Option<Out>
     ensures none { result ≡ None → IsTrue (T.state files.now).tells
-        → AreApart (asking_of request.now) (T.state files.now) }
-    ensures refused { IfSome result (λ out. IsRefusable (asking_of request.now)
+        → AreApart (filed (T.state files.now) (asking_of request.now)) (T.state files.now) }
+    ensures refused { IfSome result (λ out. IsRefusable
+        (filed (T.state files.now) (asking_of request.now))
         (λ name cause. IsTrue ((T.state files.now).is_open name))
         (Refusal.Target out Cause.Input)) }
 {
@@ -86,9 +89,10 @@ fn input_among_outputs<T: Files>(request: &Request<'_>, files: &T) -> Option<Out
 // Whether the report leads to an input.
 fn input_as_report<T: Files>(request: &Request<'_>, files: &T) -> bool
     ensures none { result ≡ false → IsTrue (T.state files.now).tells → (name : List ℕ)
-        → (asking_of request.now).report ≡ Some name
+        → (filed (T.state files.now) (asking_of request.now)).report ≡ Some name
         → (T.state files.now).is_open name ≡ false }
-    ensures refused { IsTrue result → IsRefusable (asking_of request.now)
+    ensures refused { IsTrue result
+        → IsRefusable (filed (T.state files.now) (asking_of request.now))
         (λ name cause. IsTrue ((T.state files.now).is_open name)) (Refusal.Report Cause.Input) }
 {
     request

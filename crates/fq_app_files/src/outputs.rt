@@ -4,7 +4,7 @@ ghost use Rattle.std.specs.Prelude.{IsTrue, IsSome, IfOk, IfErr};
 ghost use Rattle.fq_files.specs.States.{MaySay, OnlyStores, OnlyWrites, StillHeld, TellsWhy};
 ghost use Rattle.fq_run_core.specs.Devices.{outlet_states};
 ghost use Rattle.fq_app_words.specs.Requests.{asking_of, output_name};
-ghost use Rattle.fq_app_files.specs.Trimming.{AreHeld};
+ghost use Rattle.fq_app_files.specs.Trimming.{filed, AreHeld};
 ghost use Rattle.fq_app_files.specs.Seeing.{OutputsMaySay, OutputsTellWhy};
 ghost use Rattle.fq_app_files.specs.Making.{AreOutputsMade, AreOutputsRefused, AreOutputsStored, IsOutputMade, IsOutputRefused, IsOutputStored};
 
@@ -20,10 +20,12 @@ pub(crate) fn outputs<T: Files>(
     request: &Request<'_>,
     files: &mut T,
 ) -> Result<Outlets<T::Target>, Refusal>
-    ensures made { IfOk result (λ outlets. AreOutputsMade (asking_of request.now)
+    ensures made { IfOk result (λ outlets. AreOutputsMade
+        (filed (T.state files.old) (asking_of request.now))
         (T.state files.old) (T.state files.new) (outlet_states T.Target.state outlets)) }
     ensures refused { IfErr result (λ why.
-        AreOutputsRefused (asking_of request.now) why (T.state files.old) (T.state files.new)) }
+        AreOutputsRefused (filed (T.state files.old) (asking_of request.now))
+        why (T.state files.old) (T.state files.new)) }
     ensures names { StillHeld (T.state files.old) (T.state files.new) }
     ensures kept { OnlyWrites (T.state files.old) (T.state files.new) }
 {
@@ -47,10 +49,12 @@ pub(crate) fn outputs<T: Files>(
 // Makes one output that was asked for, empty. The outputs before it have been made.
 fn output<T: Files>(request: &Request<'_>, files: &mut T, out: Out) -> Result<T::Target, Refusal>
     requires { IsSome (output_name (asking_of request.now) out) }
-    ensures made { IfOk result (λ target. IsOutputMade (asking_of request.now) out
+    ensures made { IfOk result (λ target. IsOutputMade
+        (filed (T.state files.old) (asking_of request.now)) out
         (T.state files.old) (T.state files.new) (T.Target.state target)) }
     ensures refused { IfErr result (λ why.
-        IsOutputRefused (asking_of request.now) out why (T.state files.old) (T.state files.new)) }
+        IsOutputRefused (filed (T.state files.old) (asking_of request.now))
+        out why (T.state files.old) (T.state files.new)) }
     ensures names { StillHeld (T.state files.old) (T.state files.new) }
     ensures kept { OnlyWrites (T.state files.old) (T.state files.new) }
 {
@@ -70,11 +74,12 @@ pub fn store<T: Files>(
     outlets: Outlets<T::Target>,
 ) -> Outlets<Option<SystemError>>
     requires { IsTrue (T.state files.old).tells
-        → AreHeld (asking_of request.now) (T.state files.old).bytes }
-    ensures stored { AreOutputsStored (asking_of request.now)
+        → AreHeld (filed (T.state files.old) (asking_of request.now)) (T.state files.old).bytes }
+    ensures stored { AreOutputsStored (filed (T.state files.old) (asking_of request.now))
         (outlet_states T.Target.state outlets) (T.state files.old) (T.state files.new) }
-    ensures says { OutputsMaySay (asking_of request.now) (T.state files.old).may_say result }
-    ensures why { OutputsTellWhy (asking_of request.now)
+    ensures says { OutputsMaySay (filed (T.state files.old) (asking_of request.now))
+        (T.state files.old).may_say result }
+    ensures why { OutputsTellWhy (filed (T.state files.old) (asking_of request.now))
         (outlet_states T.Target.state outlets) result }
     ensures names { StillHeld (T.state files.old) (T.state files.new) }
     ensures kept { OnlyStores (T.state files.old) (T.state files.new) }
@@ -110,15 +115,15 @@ fn store_one<T: Files>(
     out: Out,
     outlet: T::Target,
 ) -> Option<SystemError>
-    requires wanted { IsSome (output_name (asking_of request.now) out) }
+    requires wanted { IsSome (output_name (filed (T.state files.old) (asking_of request.now)) out) }
     requires held { IsTrue (T.state files.old).tells
-        → AreHeld (asking_of request.now) (T.state files.old).bytes }
+        → AreHeld (filed (T.state files.old) (asking_of request.now)) (T.state files.old).bytes }
     ensures held { IsTrue (T.state files.new).tells
-        → AreHeld (asking_of request.now) (T.state files.new).bytes }
-    ensures stored { IsOutputStored (asking_of request.now) out
+        → AreHeld (filed (T.state files.new) (asking_of request.now)) (T.state files.new).bytes }
+    ensures stored { IsOutputStored (filed (T.state files.old) (asking_of request.now)) out
         (T.Target.state outlet) (T.state files.old) (T.state files.new) }
     ensures says { MaySay (T.state files.old).may_say
-        (output_name (asking_of request.now) out) result }
+        (output_name (filed (T.state files.old) (asking_of request.now)) out) result }
     ensures why { TellsWhy (T.Target.state outlet).failures result }
     ensures names { StillHeld (T.state files.old) (T.state files.new) }
     ensures kept { OnlyStores (T.state files.old) (T.state files.new) }

@@ -7,6 +7,7 @@ ghost use Rattle.fq_text.specs.Written.{line};
 ghost use Rattle.fq_report.specs.Reports.{text_of};
 ghost use Rattle.fq_app_words.specs.Requests.{asking_of};
 ghost use Rattle.fq_app_files.specs.Reporting.{run_facts, IsDue, IsReportOpen, IsReportWritten, IsSent, IsSentInPart, KeepsOutputs};
+ghost use Rattle.fq_app_files.specs.Trimming.{filed};
 ghost use Rattle.fq_app_files.specs.Opening.{IsReportMade, IsReportRefused};
 ghost use Rattle.fq_app_files.specs.Completing.{IsReportStored};
 ghost use Rattle.fq_app_files.specs.Seeing.{IsReportError};
@@ -40,12 +41,15 @@ pub(crate) fn report_target<T: Files>(
     request: &Request<'_>,
     files: &mut T,
 ) -> Result<Option<T::Target>, Refusal>
-    ensures made { IfOk result (λ target. IsReportMade (asking_of request.now)
+    ensures made { IfOk result (λ target. IsReportMade
+        (filed (T.state files.old) (asking_of request.now))
         (T.state files.new) (option_map T.Target.state target)) }
     ensures refused { IfErr result (λ why.
-        IsReportRefused (asking_of request.now) why (T.state files.old) (T.state files.new)) }
+        IsReportRefused (filed (T.state files.old) (asking_of request.now))
+        why (T.state files.old) (T.state files.new)) }
     ensures held { StillHeld (T.state files.old) (T.state files.new) }
-    ensures others { KeepsOutputs (asking_of request.now) (T.state files.old) (T.state files.new) }
+    ensures others { KeepsOutputs (filed (T.state files.old) (asking_of request.now))
+        (T.state files.old) (T.state files.new) }
     ensures kept { OnlyWrites (T.state files.old) (T.state files.new) }
 {
     let Some(name) = request.report else {
@@ -67,11 +71,12 @@ pub fn store_report<T: Files>(
     account: &Account,
     target: Option<T::Target>,
 ) -> (Reported, Option<SystemError>)
-    requires { IsReportOpen (asking_of request.now)
+    requires { IsReportOpen (filed (T.state files.old) (asking_of request.now))
         (T.state files.old) (option_map T.Target.state target) }
-    ensures stored { IsReportStored (asking_of request.now) encoding account.now
+    ensures stored { IsReportStored (asking_of request.now)
+        (filed (T.state files.old) (asking_of request.now)) encoding account.now
         (option_map T.Target.state target) result.0 (T.state files.old) (T.state files.new) }
-    ensures says { IsReportError (asking_of request.now)
+    ensures says { IsReportError (filed (T.state files.old) (asking_of request.now))
         (T.state files.old).may_say result.0 result.1 }
     ensures kept { OnlyStores (T.state files.old) (T.state files.new) }
 {

@@ -46,6 +46,21 @@ asking_of r = record {
   steps = map (λ word. word.now) r.steps.items;
 }
 
+-- the request, with the key of the file that each name leads to in place of the name
+abbrev pub by_file : (List ℕ → List ℕ) → Asking → Asking
+by_file leads a = record a {
+  inputs = record a.inputs {
+    forward = leads a.inputs.forward;
+    reverse = leads a.inputs.reverse;
+  };
+  forward_paired = leads a.forward_paired;
+  forward_unpaired = leads a.forward_unpaired;
+  reverse_paired = leads a.reverse_paired;
+  reverse_unpaired = leads a.reverse_unpaired;
+  log = option_map leads a.log;
+  report = option_map leads a.report;
+}
+
 -- Names.
 
 -- the name of an output, if it is to be written

@@ -1,3 +1,4 @@
+pub mod KeyLemmas
 pub mod NodeLemmas
 pub mod StateLemmas
 mod WorkedExamples

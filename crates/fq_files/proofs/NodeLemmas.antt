@@ -1,23 +1,16 @@
 -- Nodes of a disk in memory as inodes.
-use Rattle.std.proofs.Common.{◌≡◌, ◌≢◌, ◌<◌, ℕ, suc, zero, refl, ap, IsTrue, List, [], ◌∷◌, length, get_or, slice_set, arith}
+use Rattle.std.proofs.Common.{◌≡◌, ◌≢◌, ◌<◌, ◌≤◌, ◌++◌, false, ℕ, suc, zero, refl, ap, IsTrue, List, [], ◌∷◌, length, get_or, slice_set, arith}
 use Rattle.fq_files.specs.declared.disk.Kind.TheVariants.{Regular}
 use Rattle.fq_files.specs.declared.memory_disk.Node.{Node}
 use Rattle.fq_files.specs.MemoryDisks.{inode_at, inode_of_node}
 
--- an inode that is a regular file is one of the nodes
-pub regular_within : (nodes : List Node) (i : ℕ) → (inode_at nodes i).kind ≡ Regular →
+-- an inode that is there is one of the nodes
+pub there_within : (nodes : List Node) (i : ℕ) → IsTrue (inode_at nodes i).is_there →
     i < length nodes
-regular_within [] i regular = grind (arith)
-regular_within (n ∷ ns) zero regular = omega arith
-regular_within (n ∷ ns) (suc i) regular =
-    let e : i < length ns = regular_within ns i regular in omega arith
-
--- each of the nodes is there
-pub within_there : (nodes : List Node) (i : ℕ) → i < length nodes →
-    IsTrue (inode_at nodes i).is_there
-within_there [] i within = grind (arith)
-within_there (n ∷ ns) zero within = refl
-within_there (n ∷ ns) (suc i) within = within_there ns i (omega arith)
+there_within [] i there = grind (arith)
+there_within (n ∷ ns) zero there = omega arith
+there_within (n ∷ ns) (suc i) there =
+    let e : i < length ns = there_within ns i there in omega arith
 
 -- the inode of a node
 pub inode_found : (nodes : List Node) (i : ℕ) (d : Node) → i < length nodes →
@@ -42,3 +35,18 @@ inode_set_other (n ∷ ns) zero (suc j) node apart = refl
 inode_set_other (n ∷ ns) (suc i) zero node apart = refl
 inode_set_other (n ∷ ns) (suc i) (suc j) node apart =
     inode_set_other ns i j node (λ same. apart (ap suc same))
+
+-- a number of no node is that of an empty inode that isn't there
+pub inode_past : (nodes : List Node) (i : ℕ) → length nodes ≤ i →
+    inode_at nodes i ≡ record { is_there = false; kind = Regular; bytes = [] }
+inode_past [] i past = refl
+inode_past (n ∷ ns) zero past = grind (arith)
+inode_past (n ∷ ns) (suc i) past = inode_past ns i (omega arith)
+
+-- a new node that isn't there changes no inode
+pub inode_reserved : (nodes : List Node) (node : Node) → node.is_there ≡ false →
+    node.bytes.items ≡ [] → (i : ℕ) → inode_at (nodes ++ node ∷ []) i ≡ inode_at nodes i
+inode_reserved [] node absent empty zero = grind (arith)
+inode_reserved [] node absent empty (suc i) = refl
+inode_reserved (n ∷ ns) node absent empty zero = refl
+inode_reserved (n ∷ ns) node absent empty (suc i) = inode_reserved ns node absent empty i

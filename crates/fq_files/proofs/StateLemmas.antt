@@ -2,7 +2,7 @@
 -- call says what it leaves, such as `OnlyWrites`.
 use Rattle.std.proofs.Common.{◌≡◌, ◌∙◌, IsTrue, sym, ap, subst}
 use Rattle.fq_files.specs.Holding.{IsUnchanged}
-use Rattle.fq_files.specs.States.{Errors, FilesState, OnlyFails, OnlyStores, OnlyWrites}
+use Rattle.fq_files.specs.States.{FilesState, OnlyFails, OnlyStores, OnlyWrites}
 
 -- files whose bytes are known to the proof are still such files
 pub told_as : (old new : FilesState) → new ≡ old → IsTrue old.tells → IsTrue new.tells
@@ -15,11 +15,6 @@ told_before old new same told = subst (λ (files : FilesState). IsTrue files.tel
 -- a call that leaves the bytes changes no file
 pub same_as : (old new : FilesState) → new ≡ old → IsUnchanged old.bytes new.bytes
 same_as old new same name = ap (λ (files : FilesState). files.bytes name) same
-
--- a call leaves what devices may say
-pub says_as : (old new : FilesState) (P : Errors → Type 0) → new ≡ old → P new.may_say →
-    P old.may_say
-says_as old new P same = subst (λ (files : FilesState). P files.may_say) same
 
 -- a call that changes only which names have a device that failed is one that only stores
 pub store_fail : (old new : FilesState) → OnlyFails old new → OnlyStores old new

@@ -1,6 +1,10 @@
--- Device numbers, as the C library's `makedev` makes them.
-use Rattle.std.proofs.Common.{◌≡◌, refl}
+-- Device numbers, as the C library's `makedev` makes them, and files by key.
+use Rattle.std.proofs.Common.{◌≡◌, refl, ℕ, suc, zero, true, Some, None, [], ◌∷◌}
+use Rattle.fq_files.specs.ByKey.{bytes_in, told}
 use Rattle.fq_files.specs.Devices.{device_of}
+use Rattle.fq_files.specs.Disks.{Inode, absent_inode, new_inode}
+use Rattle.fq_files.specs.MemoryDisks.{disk_state_of}
+use Rattle.fq_files.specs.declared.memory_disk.MemoryDisk.{MemoryDisk}
 
 -- 0:27, a file system in memory, and the first with a minor number of nine bits.
 in_memory : device_of 0 27 ≡ 27
@@ -27,3 +31,21 @@ thirteen_bits = refl
 
 all_bits : device_of 305419896 2596069104 ≡ 1311771985900370160
 all_bits = refl
+
+-- Inode 0 is there, and no other. It is the file of the key that is its number alone.
+abbrev lone : ℕ → Inode
+lone zero = record new_inode { bytes = 65 ∷ [] }
+lone (suc i) = absent_inode
+
+of_its_key : bytes_in lone (0 ∷ []) ≡ Some (65 ∷ [])
+of_its_key = refl
+
+of_another : bytes_in lone (1 ∷ []) ≡ None
+of_another = refl
+
+of_no_file : bytes_in lone [] ≡ None
+of_no_file = refl
+
+-- The bytes of files over a disk in memory are known to the proof.
+in_memory_told : (disk : MemoryDisk) → told (disk_state_of disk) ≡ true
+in_memory_told disk = refl

@@ -4,14 +4,27 @@ use Rattle.std.specs.List.{list_any}
 use Rattle.fq_text.specs.Devices.{FeedState, OutletState}
 use Rattle.fq_text.specs.declared.seen.SystemError.{SystemError}
 use Rattle.fq_files.specs.Devices.{device_of}
-use Rattle.fq_files.specs.Disks.{DiskState, IsRegular}
+use Rattle.fq_files.specs.Disks.{DiskState, IsCreated, IsRegular}
 use Rattle.fq_files.specs.declared.disk.Kind.TheVariants.{Directory}
 use Rattle.fq_files.specs.declared.files.Cause.{Cause}
 use Rattle.fq_files.specs.declared.files.Cause.TheVariants.{System, Input, Output}
 
+-- files over a disk, with the inodes of their inputs and outputs
+pub record DiskHolding (D : Type 0) : Type 0 where
+  pub disk : D
+  pub inputs : List ℕ
+  pub outputs : List ℕ
+  pub syncs_always : Bool
+  pub has_failed : Bool
+  pub has_unflushed : Bool
+
 -- whether an inode is one of these
 abbrev pub is_in : List ℕ → ℕ → Bool
 is_in inodes i = list_any (λ one. nat_eq one i) inodes
+
+-- each of these inodes is there
+abbrev pub AreThere : DiskState → List ℕ → Type 0
+AreThere disk inodes = (i : ℕ) → IsTrue (is_in inodes i) → IsTrue (disk.at i).is_there
 
 -- a feed of what this name leads to: it has the bytes of the inode, if that is a regular file, and
 -- the inode is one more input
@@ -24,17 +37,18 @@ pub record IsSource (disk : DiskState) (inputs now : List ℕ) (name : List ℕ)
   pub telling : IsRegular disk inode → IsTrue feed.tells
   pub given : IsRegular disk inode → feed.to_come ≡ (disk.at inode).bytes
 
--- the outlet of what this name leads to now: the inode was no input, and if it is a regular file,
--- it was no output, is one now, and is empty; the outlet has taken nothing
-pub record IsTarget (new : DiskState) (inputs outputs now : List ℕ) (name : List ℕ) (inode : ℕ)
+-- the outlet of what this name leads to: the inode was no input, and if it is a regular file, it
+-- was no output, is one now, and is empty; the outlet has its number, and has taken nothing
+pub record IsTarget (old new : DiskState) (inputs outputs now : List ℕ) (name : List ℕ)
     (outlet : OutletState) : Type 0 where
-  pub leads : new.inode_of name ≡ Some inode
+  pub inode : ℕ
+  pub leads : old.inode_of name ≡ Some inode
   pub there : IsTrue (new.at inode).is_there
   pub no_input : is_in inputs inode ≡ false
   pub no_output : IsRegular new inode → is_in outputs inode ≡ false
   pub noted : IsRegular new inode → now ≡ outputs ++ inode ∷ []
   pub emptied : IsRegular new inode → (new.at inode).bytes ≡ []
-  pub telling : IsRegular new inode → IsTrue outlet.tells
+  pub telling : IsRegular new inode → outlet.file ≡ Some inode
   pub nothing : IsRegular new inode → outlet.taken ≡ []
 
 -- each of these inodes that is there is as it was
@@ -42,13 +56,13 @@ abbrev pub KeepsThese : List ℕ → DiskState → DiskState → Type 0
 KeepsThese inodes old new = (i : ℕ) → IsTrue (is_in inodes i) → IsTrue (old.at i).is_there →
     new.at i ≡ old.at i
 
--- each inode that is there is as it was
-abbrev pub KeepsAll : DiskState → DiskState → Type 0
-KeepsAll old new = (i : ℕ) → IsTrue (old.at i).is_there → new.at i ≡ old.at i
+-- each inode is as it was, or was created and is empty
+abbrev pub KeepsOrCreates : DiskState → DiskState → Type 0
+KeepsOrCreates old new = (i : ℕ) → (new.at i ≡ old.at i) ⊎ IsCreated old new i
 
 -- every inode to which this name doesn't lead is as it was
 abbrev pub KeepsUnnamed : DiskState → DiskState → List ℕ → Type 0
-KeepsUnnamed old new name = (i : ℕ) → new.inode_of name ≢ Some i → new.at i ≡ old.at i
+KeepsUnnamed old new name = (i : ℕ) → old.inode_of name ≢ Some i → new.at i ≡ old.at i
 
 -- this name leads to one of these inodes
 pub record LeadsInto (disk : DiskState) (inodes : List ℕ) (name : List ℕ) : Type 0 where
@@ -68,7 +82,7 @@ pub record IsDirectory (disk : DiskState) (name : List ℕ) : Type 0 where
   pub leads : disk.inode_of name ≡ Some inode
   pub kind : (disk.at inode).kind ≡ Directory
 
--- the cause why this name, which leads now where it leads, is refused
+-- a cause for which this name may be refused
 pub record IsCause (disk : DiskState) (inputs outputs : List ℕ) (name : List ℕ) (cause : Cause) :
     Type 0 where
   pub input : cause ≡ Input → LeadsInto disk inputs name

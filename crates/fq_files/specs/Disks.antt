@@ -15,7 +15,10 @@ pub record Inode : Type 0 where
 pub record DiskState : Type 0 where
   -- Whether names and bytes are known to the proof. This never changes.
   pub tells : Bool
-  -- The inode that each name leads to, links followed.
+  -- Whether each inode that is there is a regular file. This never changes.
+  pub only_regular : Bool
+  -- The inode that each name leads to, links followed, once it is there; without one there never
+  -- is a file of this name. This never changes.
   pub inode_of : List ℕ → Option ℕ
   -- Each inode.
   pub at : ℕ → Inode
@@ -39,10 +42,9 @@ new_inode = record { is_there = true; kind = Regular; bytes = [] }
 abbrev pub absent_inode : Inode
 absent_inode = record { is_there = false; kind = Device; bytes = [] }
 
--- this inode was created, and no name led to it
+-- this inode was created
 pub record IsCreated (old new : DiskState) (i : ℕ) : Type 0 where
-  pub absent : old.at i ≡ absent_inode
-  pub unnamed : (name : List ℕ) → old.inode_of name ≢ Some i
+  pub absent : (old.at i).is_there ≡ false
   pub created : new.at i ≡ new_inode
 
 -- what the system says of this inode
@@ -54,20 +56,12 @@ pub record IsFacts (disk : DiskState) (i : ℕ) (facts : Facts) : Type 0 where
 -- what the system says of the inode that this name leads to
 pub record IsFactsOf (disk : DiskState) (name : List ℕ) (facts : Facts) : Type 0 where
   pub leads : disk.inode_of name ≡ Some facts.inode
+  pub there : IsTrue (disk.at facts.inode).is_there
   pub told : IsFacts disk facts.inode facts
 
--- only names and inodes have changed
-abbrev pub OnlyChanges : DiskState → DiskState → Type 0
-OnlyChanges old new = new ≡ record old { inode_of = new.inode_of; at = new.at }
-
 -- only inodes have changed
-abbrev pub KeepsNames : DiskState → DiskState → Type 0
-KeepsNames old new = (name : List ℕ) → new.inode_of name ≡ old.inode_of name
-
--- each name that led to an inode leads to the same
-abbrev pub KeepsLeading : DiskState → DiskState → Type 0
-KeepsLeading old new = (name : List ℕ) → (i : ℕ) → old.inode_of name ≡ Some i
-    → new.inode_of name ≡ Some i
+abbrev pub OnlyChanges : DiskState → DiskState → Type 0
+OnlyChanges old new = new ≡ record old { at = new.at }
 
 -- no inode has changed
 abbrev pub KeepsInodes : DiskState → DiskState → Type 0

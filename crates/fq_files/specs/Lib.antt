@@ -1,4 +1,5 @@
 pub mod ByInode
+pub mod ByKey
 pub mod Devices
 pub mod Disks
 pub mod Holding

@@ -15,14 +15,17 @@ bytes_in files name = option_map (λ bytes. bytes.items) (get_by_text files.held
 abbrev pub is_memory_error : SystemError → Bool
 is_memory_error error = (error.number == 2) || ((error.number == 5) || (error.number == 12))
 
--- Each name is opened by itself. A failure counts for every name, and so does a target that was not
--- flushed.
+-- Each name is a file of its own, and its key. A failure counts for every file, and so does a
+-- target that was not flushed.
 abbrev pub state_of : MemoryFiles → FilesState
 state_of files = record {
+  leads = λ name. name;
   tells = true;
+  looks = true;
   bytes = bytes_in files;
   refuses = λ name cause. false;
   may_say = λ name error. is_memory_error error;
+  writes = λ number name. true;
   is_open = λ name. contains_text files.inputs name;
   has_failed = λ name. files.has_failed;
   is_unflushed = λ name. files.has_unflushed;

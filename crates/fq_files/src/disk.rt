@@ -1,7 +1,7 @@
 //! A disk as a program calls it.
 
-ghost use Rattle.std.specs.Prelude.{◌≡◌, ◌⊎◌, ◌<◌, ℕ, Bool, Some, None, Err, [], IfOk, IfSome, OnOk, OnErr, IsSome, IsTrue};
-ghost use Rattle.fq_files.specs.Disks.{DiskState, IsCreated, IsFacts, IsFactsOf, IsRegular, KeepsInodes, KeepsLeading, KeepsNames, KeepsOthers, OnlyChanges, Tells};
+ghost use Rattle.std.specs.Prelude.{◌≡◌, ◌⊎◌, ◌<◌, ℕ, Bool, Some, None, Err, [], false, IfOk, IfSome, OnOk, OnErr, IsTrue};
+ghost use Rattle.fq_files.specs.Disks.{DiskState, IsCreated, IsFacts, IsFactsOf, IsRegular, KeepsInodes, KeepsOthers, OnlyChanges, Tells};
 ghost use Rattle.fq_files.specs.States.{TellsWhy};
 
 use fq_text::{Feed, OutOfMemory, Outlet, Seen, SystemError};
@@ -45,9 +45,6 @@ pub trait Opened {
 
 /// What writes an open file.
 pub trait Written {
-    /// The inode.
-    ghost inode: { Self → ℕ };
-
     /// Whether a flush waits until the bytes are on stable storage.
     ghost syncs: { Self → Bool };
 }
@@ -92,7 +89,6 @@ pub trait Disk {
             ⊎ IsCreated (state self.old) (state self.new) (Self.File.inode file)) }
         ensures others { IfOk result (λ file. Tells (state self.old)
             → KeepsOthers (state self.old) (state self.new) (Self.File.inode file)) }
-        ensures names { Tells (state self.old) → KeepsLeading (state self.old) (state self.new) }
         ensures err { OnErr result (KeepsInodes (state self.old) (state self.new)) }
         ensures rightly { (error : SystemError) → result ≡ Err error
             → IsTrue ((state self.old).refuses name.now error) };
@@ -109,8 +105,9 @@ pub trait Disk {
     fn find(&self, name: &str) -> Option<Facts>
         ensures facts { IfSome result (λ facts. Tells (state self.now)
             → IsFactsOf (state self.now) name.now facts) }
-        ensures nothing { result ≡ None → Tells (state self.now)
-            → (state self.now).inode_of name.now ≡ None };
+        ensures nothing { result ≡ None → Tells (state self.now) → (i : ℕ)
+            → (state self.now).inode_of name.now ≡ Some i
+            → ((state self.now).at i).is_there ≡ false };
 
     /// Empties a regular file (`ftruncate`).
     fn empty(&mut self, file: &Self::File) -> Result<(), SystemError>
@@ -120,7 +117,6 @@ pub trait Disk {
             ≡ record ((state self.old).at (Self.File.inode file.now)) { bytes = [] }) }
         ensures others { KeepsOthers (state self.old) (state self.new)
             (Self.File.inode file.now) }
-        ensures names { KeepsNames (state self.old) (state self.new) }
         ensures err { OnErr result (KeepsInodes (state self.old) (state self.new)) }
         ensures rightly { (error : SystemError) → result ≡ Err error
             → IsTrue ((state self.old).fails (Self.File.inode file.now) error) };
@@ -149,29 +145,33 @@ pub trait Disk {
         ensures fresh { (Self.Writer.state result).failures ≡ 0 }
         ensures telling { Tells (state self.now)
             → IsRegular (state self.now) (Self.File.inode file)
-            → IsTrue (Self.Writer.state result).tells }
+            → (Self.Writer.state result).file ≡ Some (Self.File.inode file) }
         ensures nothing { Tells (state self.now)
             → IsRegular (state self.now) (Self.File.inode file)
             → (Self.Writer.state result).taken ≡ [] }
-        ensures same { Tells (state self.now)
-            → Self.Writer.inode result ≡ Self.File.inode file }
         ensures syncs { Self.Writer.syncs result ≡ syncs };
 
-    /// Closes a writer: its inode, if it is regular, holds what the writer has taken.
+    /// Closes a writer. The inode whose number it tells, if that is there, holds what it has taken.
+    /// A writer that tells none changes no inode.
     fn close(&mut self, writer: Self::Writer) -> Closed
         ensures kept { OnlyChanges (state self.old) (state self.new) }
-        ensures stored { Tells (state self.old)
-            → IsRegular (state self.old) (Self.Writer.inode writer)
-            → IsTrue (Self.Writer.state writer).tells
-            → (state self.new).at (Self.Writer.inode writer)
-            ≡ record ((state self.old).at (Self.Writer.inode writer)) {
+        ensures stored { Tells (state self.old) → (i : ℕ)
+            → (Self.Writer.state writer).file ≡ Some i
+            → IsTrue ((state self.old).at i).is_there
+            → (state self.new).at i ≡ record ((state self.old).at i) {
               bytes = (Self.Writer.state writer).taken;
             } }
-        ensures others { KeepsOthers (state self.old) (state self.new)
-            (Self.Writer.inode writer) }
-        ensures names { KeepsNames (state self.old) (state self.new) }
+        ensures others { (i : ℕ) → (Self.Writer.state writer).file ≡ Some i
+            → KeepsOthers (state self.old) (state self.new) i }
+        ensures idle { (Self.Writer.state writer).file ≡ None
+            → KeepsInodes (state self.old) (state self.new) }
         ensures why { TellsWhy (Self.Writer.state writer).failures result.error }
-        ensures rightly { (error : SystemError) → result.error ≡ Some error
-            → IsTrue ((state self.old).fails (Self.Writer.inode writer) error) }
+        ensures rightly { (error : SystemError) → result.error ≡ Some error → (i : ℕ)
+            → (Self.Writer.state writer).file ≡ Some i
+            → IsTrue ((state self.old).fails i error) }
         ensures flushed { result.is_flushed ≡ (Self.Writer.state writer).is_flushed };
+
+    /// Each inode that is there is a regular file, if the disk says so.
+    ghost regular: { (disk : Self) → IsTrue (state disk).only_regular → (i : ℕ)
+        → IsTrue ((state disk).at i).is_there → IsRegular (state disk) i };
 }

@@ -7,6 +7,7 @@ use crate::disk::{Disk, Facts, Kind, Opened, Written};
 use crate::files::{Cause, FileFault, Files};
 use fq_text::{Feed, OutOfMemory, Outlet, Seen, SystemError};
 use std::alloc::Global;
+use std::marker::Model;
 
 // The number by which Linux says that a file is a directory (`EISDIR`).
 const IS_DIRECTORY: SystemError = SystemError { number: 21 };
@@ -19,16 +20,15 @@ fn refused(error: SystemError) -> FileFault
 }
 
 /// The files of a disk, such as [`SystemDisk`](crate::SystemDisk). As [`Files`], their bytes are
-/// not known to the proof, since clauses by name would be false where a name is a link. What each
-/// call does is said by inode, of every disk that tells (`Tells`).
+/// known to the proof if the disk tells and has regular files only, links or not: the key of a file
+/// is its inode. What each call does is also said by inode, of every disk that tells (`Tells`).
 ///
 /// A file that was opened as an input is refused as an output, under any name, and is left
 /// unchanged. A regular file that is already an input is refused as another input, and one that is
-/// already an output is refused as another output. Every name may be refused, and every name may
-/// lead to an input. A failure counts for every name, and so does a target that was not flushed. A
-/// device may say each error.
+/// already an output is refused as another output. The system may refuse every file. A failure
+/// counts for every file, and so does a target that was not flushed. A device may say each error.
 #[derive(Drop)]
-pub struct DiskFiles<D> {
+pub struct DiskFiles<D: Disk> {
     disk: D,
     // The inodes of the inputs.
     inputs: Vec<u128>,
@@ -42,17 +42,37 @@ pub struct DiskFiles<D> {
     has_unflushed: bool,
 }
 
+impl<D: Disk> Model for DiskFiles<D> {
+    ghost use Rattle.fq_files.specs.Disks.{Tells};
+    ghost use Rattle.fq_files.specs.ByInode.{AreThere, DiskHolding};
+
+    ghost Value = { DiskHolding D };
+
+    ghost view = { λ files. record {
+      disk = files.disk;
+      inputs = files.inputs.items;
+      outputs = files.outputs.items;
+      syncs_always = files.syncs_always;
+      has_failed = files.has_failed;
+      has_unflushed = files.has_unflushed;
+    } };
+
+    // No file is removed.
+    ghost invariant = { λ files. Tells (D.state files.disk)
+        → AreThere (D.state files.disk) files.inputs.items };
+}
+
 impl<D: Disk> DiskFiles<D> {
-    ghost use Rattle.std.specs.Prelude.{◌≡◌, ◌≢◌, ◌⊎◌, ◌<◌, ℕ, false, None, Some, Err, [], IfOk, OnOk, OnErr, IsTrue, IsErr, IsSome};
-    ghost use Rattle.fq_files.specs.Disks.{IsRegular, KeepsLeading, KeepsNames, KeepsOthers, Tells};
+    ghost use Rattle.std.specs.Prelude.{◌≡◌, ◌≢◌, ◌⊎◌, ◌<◌, ℕ, false, None, Some, Err, [], IfOk, OnOk, OnErr, IsTrue, IsErr};
+    ghost use Rattle.fq_files.specs.Disks.{IsRegular, KeepsInodes, KeepsOthers, OnlyChanges, Tells};
     ghost use Rattle.fq_files.specs.States.{TellsWhy};
-    ghost use Rattle.fq_files.specs.ByInode.{is_in, IsCause, IsSource, IsSynced, IsTarget, KeepsAll, KeepsThese, KeepsUnnamed, Remain, Syncs};
+    ghost use Rattle.fq_files.specs.ByInode.{is_in, IsCause, IsSource, IsSynced, IsTarget, KeepsOrCreates, KeepsThese, KeepsUnnamed, Remain, Syncs};
 
     /// The files of this disk, none of them an input or an output.
     pub fn new(alloc: Global, disk: D) -> DiskFiles<D>
         ensures disk { result.disk ≡ disk }
-        ensures inputs { result.inputs.items ≡ [] }
-        ensures outputs { result.outputs.items ≡ [] }
+        ensures inputs { result.inputs ≡ [] }
+        ensures outputs { result.outputs ≡ [] }
     {
         DiskFiles {
             disk,
@@ -69,8 +89,9 @@ impl<D: Disk> DiskFiles<D> {
     pub fn keep(&mut self, name: &str) -> Result<(), OutOfMemory>
         ensures noted { OnOk result (Tells (D.state self.old.disk) → (i : ℕ)
             → (D.state self.old.disk).inode_of name.now ≡ Some i
-            → IsRegular (D.state self.old.disk) i → IsTrue (is_in self.new.outputs.items i)) }
-        ensures remain { Remain self.old.outputs.items self.new.outputs.items }
+            → IsTrue ((D.state self.old.disk).at i).is_there
+            → IsRegular (D.state self.old.disk) i → IsTrue (is_in self.new.outputs i)) }
+        ensures remain { Remain self.old.outputs self.new.outputs }
         ensures kept { self.new ≡ record self.old { outputs = self.new.outputs } }
     {
         if let Some(facts) = self.disk.find(name) {
@@ -85,17 +106,17 @@ impl<D: Disk> DiskFiles<D> {
     pub fn open_source(&mut self, name: &str) -> Result<D::Reader, FileFault>
         ensures fresh { IfOk result (λ feed. (D.Reader.state feed).failures ≡ 0) }
         ensures given { IfOk result (λ feed. Tells (D.state self.old.disk)
-            → IsSource (D.state self.old.disk) self.old.inputs.items self.new.inputs.items
+            → IsSource (D.state self.old.disk) self.old.inputs self.new.inputs
             name.now (D.Reader.state feed)) }
         ensures twice { Tells (D.state self.old.disk) → (i : ℕ)
             → (D.state self.old.disk).inode_of name.now ≡ Some i
             → IsRegular (D.state self.old.disk) i
-            → IsTrue (is_in self.old.inputs.items i) → IsErr result }
+            → IsTrue (is_in self.old.inputs i) → IsErr result }
         ensures rightly { (cause : Cause) → result ≡ Err (FileFault.Refused cause)
             → Tells (D.state self.old.disk)
-            → IsCause (D.state self.old.disk) self.old.inputs.items [] name.now cause }
-        ensures err { OnErr result (self.new.inputs.items ≡ self.old.inputs.items) }
-        ensures remain { Remain self.old.inputs.items self.new.inputs.items }
+            → IsCause (D.state self.old.disk) self.old.inputs [] name.now cause }
+        ensures err { OnErr result (self.new.inputs ≡ self.old.inputs) }
+        ensures remain { Remain self.old.inputs self.new.inputs }
         ensures kept { self.new ≡ record self.old { inputs = self.new.inputs } }
     {
         let file = self.disk.open_read(name).map_err(refused)?;
@@ -124,7 +145,7 @@ impl<D: Disk> DiskFiles<D> {
     pub fn finds_input(&self, name: &str) -> bool
         ensures found { Tells (D.state self.now.disk) → (i : ℕ)
             → (D.state self.now.disk).inode_of name.now ≡ Some i
-            → result ≡ is_in self.now.inputs.items i }
+            → result ≡ is_in self.now.inputs i }
         ensures nothing { Tells (D.state self.now.disk)
             → (D.state self.now.disk).inode_of name.now ≡ None → result ≡ false }
     {
@@ -138,31 +159,31 @@ impl<D: Disk> DiskFiles<D> {
     pub fn open_target(&mut self, name: &str) -> Result<D::Writer, FileFault>
         ensures fresh { IfOk result (λ outlet. (D.Writer.state outlet).failures ≡ 0) }
         ensures given { IfOk result (λ outlet. Tells (D.state self.old.disk)
-            → IsTarget (D.state self.new.disk) self.old.inputs.items self.old.outputs.items
-            self.new.outputs.items name.now (D.Writer.inode outlet) (D.Writer.state outlet)) }
-        ensures synced { IfOk result (λ outlet. Tells (D.state self.old.disk)
-            → IsSynced (D.state self.new.disk) self.old.syncs_always
-            (D.Writer.inode outlet) (D.Writer.syncs outlet)) }
+            → IsTarget (D.state self.old.disk) (D.state self.new.disk) self.old.inputs
+            self.old.outputs self.new.outputs name.now (D.Writer.state outlet)) }
+        ensures synced { IfOk result (λ outlet. Tells (D.state self.old.disk) → (i : ℕ)
+            → (D.state self.old.disk).inode_of name.now ≡ Some i
+            → IsSynced (D.state self.new.disk) self.old.syncs_always i
+            (D.Writer.syncs outlet)) }
         ensures input { Tells (D.state self.old.disk) → (i : ℕ)
             → (D.state self.old.disk).inode_of name.now ≡ Some i
-            → IsTrue (is_in self.old.inputs.items i) → IsErr result }
+            → IsTrue (is_in self.old.inputs i) → IsErr result }
         ensures output { Tells (D.state self.old.disk) → (i : ℕ)
             → (D.state self.old.disk).inode_of name.now ≡ Some i
-            → IsTrue (is_in self.old.outputs.items i) → IsErr result }
+            → IsTrue (is_in self.old.outputs i) → IsErr result }
         ensures rightly { (cause : Cause) → result ≡ Err (FileFault.Refused cause)
-            → Tells (D.state self.old.disk) → IsCause (D.state self.new.disk)
-            self.old.inputs.items self.old.outputs.items name.now cause }
-        ensures inputs { Tells (D.state self.old.disk) → KeepsThese self.old.inputs.items
+            → Tells (D.state self.old.disk) → IsCause (D.state self.old.disk)
+            self.old.inputs self.old.outputs name.now cause }
+        ensures inputs { Tells (D.state self.old.disk) → KeepsThese self.old.inputs
             (D.state self.old.disk) (D.state self.new.disk) }
-        ensures outputs { Tells (D.state self.old.disk) → KeepsThese self.old.outputs.items
+        ensures outputs { Tells (D.state self.old.disk) → KeepsThese self.old.outputs
             (D.state self.old.disk) (D.state self.new.disk) }
         ensures others { Tells (D.state self.old.disk)
             → KeepsUnnamed (D.state self.old.disk) (D.state self.new.disk) name.now }
-        ensures names { Tells (D.state self.old.disk)
-            → KeepsLeading (D.state self.old.disk) (D.state self.new.disk) }
+        ensures inodes { OnlyChanges (D.state self.old.disk) (D.state self.new.disk) }
         ensures spared { OnErr result (Tells (D.state self.old.disk)
-            → KeepsAll (D.state self.old.disk) (D.state self.new.disk)) }
-        ensures remain { Remain self.old.outputs.items self.new.outputs.items }
+            → KeepsOrCreates (D.state self.old.disk) (D.state self.new.disk)) }
+        ensures remain { Remain self.old.outputs self.new.outputs }
         ensures kept { self.new ≡ record self.old {
           disk = self.new.disk;
           outputs = self.new.outputs;
@@ -190,19 +211,21 @@ impl<D: Disk> DiskFiles<D> {
 
     /// Hands an outlet back: its file holds what it has taken. See [`Files::done`].
     pub fn close_target(&mut self, target: D::Writer) -> Option<SystemError>
-        ensures stored { Tells (D.state self.old.disk)
-            → IsRegular (D.state self.old.disk) (D.Writer.inode target)
-            → IsTrue (D.Writer.state target).tells
-            → (D.state self.new.disk).at (D.Writer.inode target)
-            ≡ record ((D.state self.old.disk).at (D.Writer.inode target)) {
+        ensures stored { Tells (D.state self.old.disk) → (i : ℕ)
+            → (D.Writer.state target).file ≡ Some i
+            → IsTrue ((D.state self.old.disk).at i).is_there
+            → (D.state self.new.disk).at i ≡ record ((D.state self.old.disk).at i) {
               bytes = (D.Writer.state target).taken;
             } }
-        ensures others { KeepsOthers (D.state self.old.disk) (D.state self.new.disk)
-            (D.Writer.inode target) }
-        ensures names { KeepsNames (D.state self.old.disk) (D.state self.new.disk) }
+        ensures others { (i : ℕ) → (D.Writer.state target).file ≡ Some i
+            → KeepsOthers (D.state self.old.disk) (D.state self.new.disk) i }
+        ensures idle { (D.Writer.state target).file ≡ None
+            → KeepsInodes (D.state self.old.disk) (D.state self.new.disk) }
+        ensures inodes { OnlyChanges (D.state self.old.disk) (D.state self.new.disk) }
         ensures why { TellsWhy (D.Writer.state target).failures result }
-        ensures rightly { (error : SystemError) → result ≡ Some error
-            → IsTrue ((D.state self.old.disk).fails (D.Writer.inode target) error) }
+        ensures rightly { (error : SystemError) → result ≡ Some error → (i : ℕ)
+            → (D.Writer.state target).file ≡ Some i
+            → IsTrue ((D.state self.old.disk).fails i error) }
         ensures failed { 0 < (D.Writer.state target).failures → IsTrue self.new.has_failed }
         ensures sound { (D.Writer.state target).failures ≡ 0
             → self.new.has_failed ≡ self.old.has_failed }
@@ -230,14 +253,14 @@ impl<D: Disk> DiskFiles<D> {
 
     // Whether this inode is an input.
     fn is_input(&self, inode: u128) -> bool
-        ensures { result ≡ is_in self.now.inputs.items inode }
+        ensures { result ≡ is_in self.now.inputs inode }
     {
         self.inputs.iter().any(|input| *input == inode)
     }
 
     // Whether this inode is already an output.
     fn is_output(&self, inode: u128) -> bool
-        ensures { result ≡ is_in self.now.outputs.items inode }
+        ensures { result ≡ is_in self.now.outputs inode }
     {
         self.outputs.iter().any(|output| *output == inode)
     }
@@ -253,13 +276,13 @@ impl<D: Disk> DiskFiles<D> {
     // Refuses what may not be an input.
     fn may_read(&self, facts: Facts) -> Result<(), FileFault>
         ensures input { result ≡ Err (FileFault.Refused Cause.Input)
-            → IsTrue (is_in self.now.inputs.items facts.inode) }
+            → IsTrue (is_in self.now.inputs facts.inode) }
         ensures output { result ≢ Err (FileFault.Refused Cause.Output) }
         ensures system { (error : SystemError)
             → result ≡ Err (FileFault.Refused (Cause.System error))
             → facts.kind ≡ Kind.Directory }
         ensures unread { OnOk result (facts.kind ≡ Kind.Regular
-            → is_in self.now.inputs.items facts.inode ≡ false) }
+            → is_in self.now.inputs facts.inode ≡ false) }
     {
         match facts.kind {
             Kind::Directory => Err(refused(IS_DIRECTORY)),
@@ -277,13 +300,13 @@ impl<D: Disk> DiskFiles<D> {
     // Refuses what may not be an output.
     fn may_write(&self, facts: Facts) -> Result<(), FileFault>
         ensures input { result ≡ Err (FileFault.Refused Cause.Input)
-            → IsTrue (is_in self.now.inputs.items facts.inode) }
+            → IsTrue (is_in self.now.inputs facts.inode) }
         ensures output { result ≡ Err (FileFault.Refused Cause.Output)
-            → IsTrue (is_in self.now.outputs.items facts.inode) }
+            → IsTrue (is_in self.now.outputs facts.inode) }
         ensures by { OnErr result ((result ≡ Err (FileFault.Refused Cause.Input))
             ⊎ (result ≡ Err (FileFault.Refused Cause.Output))) }
-        ensures unread { OnOk result (is_in self.now.inputs.items facts.inode ≡ false) }
-        ensures unwritten { OnOk result (is_in self.now.outputs.items facts.inode ≡ false) }
+        ensures unread { OnOk result (is_in self.now.inputs facts.inode ≡ false) }
+        ensures unwritten { OnOk result (is_in self.now.outputs facts.inode ≡ false) }
     {
         if self.is_input(facts.inode) {
             return Err(FileFault::Refused(Cause::Input));
@@ -299,21 +322,14 @@ impl<D: Disk> Files for DiskFiles<D>
 where
     D::Reader: Send,
 {
-    ghost use Rattle.std.specs.Prelude.{true, false, None};
+    ghost use Rattle.fq_files.specs.ByKey.{files_state_of};
 
     type In = D::Reader;
 
     type Target = D::Writer;
 
-    ghost state = { λ files. record {
-      tells = false;
-      bytes = λ _. None;
-      refuses = λ _ _. true;
-      may_say = λ _ _. true;
-      is_open = λ _. true;
-      has_failed = λ _. files.has_failed;
-      is_unflushed = λ _. files.has_unflushed;
-    } };
+    ghost state = { λ files.
+        files_state_of (D.state files.disk) files.inputs files.has_failed files.has_unflushed };
 
     fn source(&mut self, name: &str) -> Result<D::Reader, FileFault> {
         self.open_source(name)

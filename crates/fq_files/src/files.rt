@@ -45,7 +45,7 @@ impl From<OutOfMemory> for FileFault {
 /// Files by name: feeds of files that exist, and outlets of files that are created.
 ///
 /// Whether the bytes of files are known to the proof never changes. Those of files in memory are
-/// ([`MemoryFiles`](crate::MemoryFiles)), those of files on a disk aren't
+/// ([`MemoryFiles`](crate::MemoryFiles)), those of files on a disk only if the disk tells them
 /// ([`DiskFiles`](crate::DiskFiles)). The contracts speak of bytes, and of names that are held,
 /// only if the bytes are known. No call changes another name's bytes, or removes a name.
 ///
@@ -70,16 +70,19 @@ pub trait Files {
         ensures telling { IfOk result (λ feed. IsTrue (state self.old).tells
             → IsTrue (Self.In.state feed).tells) }
         ensures given { IfOk result (λ feed. IsTrue (state self.old).tells
-            → (state self.old).bytes name.now ≡ Some (Self.In.state feed).to_come) }
+            → (state self.old).bytes ((state self.old).leads name.now)
+            ≡ Some (Self.In.state feed).to_come) }
         ensures refused { (cause : Cause) → result ≡ Err (FileFault.Refused cause)
             → MayRefuseInput (state self.old)
-            (IsTrue ((state self.old).is_open name.now)) name.now cause }
+            (IsTrue ((state self.old).is_open ((state self.old).leads name.now)))
+            ((state self.old).leads name.now) cause }
         ensures kept { OnlyOpens (state self.old) (state self.new) }
-        ensures opened { OnOk result (IsTrue ((state self.new).is_open name.now)) }
+        ensures opened { OnOk result (IsTrue
+            ((state self.new).is_open ((state self.old).leads name.now))) }
         ensures unopened { OnErr result (state self.new ≡ state self.old) }
         ensures remains { (other : List ℕ) → IsTrue ((state self.old).is_open other)
             → IsTrue ((state self.new).is_open other) }
-        ensures linked { (other : List ℕ) → other ≢ name.now
+        ensures linked { (other : List ℕ) → other ≢ (state self.old).leads name.now
             → IsTrue ((state self.new).is_open other)
             → MayRefuse (state self.old) other Cause.Input };
 
@@ -87,14 +90,17 @@ pub trait Files {
     /// and what the file looks like, as far as that is known. No file changes. The name must be
     /// held, as it is once [`source`](Files::source) has returned `Ok` for it.
     fn source_done(&mut self, name: &str, feed: Self::In) -> Seen
-        requires { IsTrue (state self.old).tells → IsSome ((state self.old).bytes name.now) }
+        requires { IsTrue (state self.old).tells
+            → IsSome ((state self.old).bytes ((state self.old).leads name.now)) }
         ensures kept { OnlyFails (state self.old) (state self.new) }
         ensures why { TellsWhy (Self.In.state feed).failures result.error }
-        ensures says { MaySay (state self.old).may_say (Some name.now) result.error }
-        ensures look { IsTrue (state self.old).tells → (bytes : List ℕ)
-            → (state self.old).bytes name.now ≡ Some bytes → result.look ≡ look_of bytes }
+        ensures says { MaySay (state self.old).may_say
+            (Some ((state self.old).leads name.now)) result.error }
+        ensures look { IsTrue (state self.old).looks → (bytes : List ℕ)
+            → (state self.old).bytes ((state self.old).leads name.now) ≡ Some bytes
+            → result.look ≡ look_of bytes }
         ensures failed { 0 < (Self.In.state feed).failures
-            → IsTrue ((state self.new).has_failed name.now) }
+            → IsTrue ((state self.new).has_failed ((state self.old).leads name.now)) }
         ensures sound { (Self.In.state feed).failures ≡ 0 → state self.new ≡ state self.old }
         ensures still { KeepsFailed (state self.old) (state self.new) };
 
@@ -103,8 +109,10 @@ pub trait Files {
     ///
     /// Ask for each name before the first [`target`](Files::target), which empties what it opens.
     fn leads_to_input(&self, name: &str) -> bool
-        ensures no_other { IsTrue result → IsTrue ((state self.now).is_open name.now) }
-        ensures found { IsTrue (state self.now).tells → IsTrue ((state self.now).is_open name.now)
+        ensures no_other { IsTrue result
+            → IsTrue ((state self.now).is_open ((state self.now).leads name.now)) }
+        ensures found { IsTrue (state self.now).tells
+            → IsTrue ((state self.now).is_open ((state self.now).leads name.now))
             → IsTrue result };
 
     /// From now on a flush of each new target waits until its bytes are on stable storage. Files
@@ -122,41 +130,53 @@ pub trait Files {
     fn target(&mut self, name: &str) -> Result<Self::Target, FileFault>
         ensures fresh { IfOk result (λ target. (Self.Target.state target).failures ≡ 0) }
         ensures telling { IfOk result (λ target. IsTrue (state self.old).tells
-            → IsTrue (Self.Target.state target).tells) }
+            → IsSome (Self.Target.state target).file) }
         ensures nothing { IfOk result (λ target. IsTrue (state self.old).tells
             → (Self.Target.state target).taken ≡ []) }
         ensures emptied { OnOk result (IsTrue (state self.old).tells
-            → (state self.new).bytes name.now ≡ Some []) }
+            → (state self.new).bytes ((state self.old).leads name.now) ≡ Some []) }
+        ensures written { IfOk result (λ target. IsTrue (state self.old).tells
+            → IsTrue ((state self.old).writes
+            (Self.Target.state target).file ((state self.old).leads name.now))) }
         ensures refused { OnErr result (IsTrue (state self.old).tells
-            → ((state self.new).bytes name.now ≡ (state self.old).bytes name.now)
-            ⊎ ((state self.new).bytes name.now ≡ Some [])) }
+            → ((state self.new).bytes ((state self.old).leads name.now)
+            ≡ (state self.old).bytes ((state self.old).leads name.now))
+            ⊎ ((state self.new).bytes ((state self.old).leads name.now) ≡ Some [])) }
         ensures held { StillHeld (state self.old) (state self.new) }
-        ensures others { IsTrue (state self.old).tells
-            → KeepsOthers (state self.old).bytes (state self.new).bytes name.now }
+        ensures others { IsTrue (state self.old).tells → KeepsOthers (state self.old).bytes
+            (state self.new).bytes ((state self.old).leads name.now) }
         ensures kept { OnlyWrites (state self.old) (state self.new) }
         ensures rightly { (cause : Cause) → result ≡ Err (FileFault.Refused cause)
-            → MayRefuse (state self.old) name.now cause };
+            → MayRefuse (state self.old) ((state self.old).leads name.now) cause };
 
     /// Hands an outlet back: the file holds what the outlet has taken, and if the outlet failed, a
     /// device of this name has failed. Returns why if it failed. The name must be held, as it is
     /// once [`target`](Files::target) has returned `Ok` for it.
     fn done(&mut self, name: &str, target: Self::Target) -> Option<SystemError>
-        requires { IsTrue (state self.old).tells → IsSome ((state self.old).bytes name.now) }
-        ensures stored { IsTrue (state self.old).tells → IsTrue (Self.Target.state target).tells
-            → (state self.new).bytes name.now ≡ Some (Self.Target.state target).taken }
+        requires { IsTrue (state self.old).tells
+            → IsSome ((state self.old).bytes ((state self.old).leads name.now)) }
+        ensures stored { IsTrue (state self.old).tells
+            → IsTrue ((state self.old).writes
+            (Self.Target.state target).file ((state self.old).leads name.now))
+            → (state self.new).bytes ((state self.old).leads name.now)
+            ≡ Some (Self.Target.state target).taken }
         ensures held { StillHeld (state self.old) (state self.new) }
         ensures others { IsTrue (state self.old).tells
-            → KeepsOthers (state self.old).bytes (state self.new).bytes name.now }
+            → IsTrue ((state self.old).writes
+            (Self.Target.state target).file ((state self.old).leads name.now))
+            → KeepsOthers (state self.old).bytes
+            (state self.new).bytes ((state self.old).leads name.now) }
         ensures kept { OnlyStores (state self.old) (state self.new) }
         ensures why { TellsWhy (Self.Target.state target).failures result }
-        ensures says { MaySay (state self.old).may_say (Some name.now) result }
+        ensures says { MaySay (state self.old).may_say
+            (Some ((state self.old).leads name.now)) result }
         ensures failed { 0 < (Self.Target.state target).failures
-            → IsTrue ((state self.new).has_failed name.now) }
+            → IsTrue ((state self.new).has_failed ((state self.old).leads name.now)) }
         ensures sound { (Self.Target.state target).failures ≡ 0
             → (state self.new).has_failed ≡ (state self.old).has_failed }
         ensures still { KeepsFailed (state self.old) (state self.new) }
         ensures unflushed { (Self.Target.state target).is_flushed ≡ false
-            → IsTrue ((state self.new).is_unflushed name.now) }
+            → IsTrue ((state self.new).is_unflushed ((state self.old).leads name.now)) }
         ensures flushed { IsTrue (Self.Target.state target).is_flushed
             → (state self.new).is_unflushed ≡ (state self.old).is_unflushed }
         ensures stays { (other : List ℕ) → IsTrue ((state self.old).is_unflushed other)

@@ -2,14 +2,14 @@
 //!
 //! [`Files`] opens a feed of a file ([`source`](Files::source)) and an outlet to one
 //! ([`target`](Files::target)), and takes both back ([`source_done`](Files::source_done),
-//! [`done`](Files::done)), saying why they failed. [`MemoryFiles`] are in memory, [`SystemFiles`]
-//! are those of the system. A file that is refused has a [`Cause`].
+//! [`done`](Files::done)), saying why they failed. [`MemoryFiles`] are in memory, [`DiskFiles`] on
+//! a [`Disk`], such as that of the system ([`SystemDisk`]). A file that is refused has a [`Cause`].
 //!
-//! Promised is what the bytes of a name are after each call, if the proof knows them, as it knows
-//! those in memory. No call changes the bytes of another name. A file is refused only for a cause
-//! for which its name may be, and an error is one that a device of its name may have. The files of
-//! the system refuse an input as an output, under whatever name: that two names lead to one file is
-//! looked up, and not proved.
+//! Promised is what the bytes of a file are after each call, if the proof knows them, as it knows
+//! those in memory, and those of every disk that tells and has regular files only. Several names
+//! may lead to one file. No call changes the bytes of another file. A file is refused only for a
+//! cause for which it may be, and an error is one that a device of it may have. That the calls of
+//! the system do what [`Disk`] says is tested.
 #![tactic(auto)]
 
 mod device;

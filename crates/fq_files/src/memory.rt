@@ -34,7 +34,7 @@ pub struct MemoryFiles {
 impl MemoryFiles {
     ghost use Rattle.std.specs.Prelude.{◌≡◌, ◌≢◌, ℕ, false, Some, None, List, IsTrue, OnOk, OnErr};
     ghost use Rattle.std.specs.Option.{option_map};
-    ghost use Rattle.fq_files.specs.Holding.{KeepsOthers, KeepsNames, IsUnchanged};
+    ghost use Rattle.fq_files.specs.Holding.{KeepsOthers, KeepsFiles, IsUnchanged};
     ghost use Rattle.fq_files.specs.Memory.{bytes_in, state_of};
     ghost use Rattle.fq_files.specs.States.{OnlyOpens, OnlyWrites};
 
@@ -57,7 +57,7 @@ impl MemoryFiles {
     /// Sets the bytes of a name. If memory is refused, nothing changes.
     pub fn put(&mut self, name: &str, bytes: &[u8]) -> Result<(), OutOfMemory>
         ensures ok { OnOk result (bytes_in self.new name.now ≡ Some bytes.now) }
-        ensures held { KeepsNames (bytes_in self.old) (bytes_in self.new) }
+        ensures held { KeepsFiles (bytes_in self.old) (bytes_in self.new) }
         ensures others { KeepsOthers (bytes_in self.old) (bytes_in self.new) name.now }
         ensures err { OnErr result (IsUnchanged (bytes_in self.old) (bytes_in self.new)) }
         ensures kept { OnlyWrites (state_of self.old) (state_of self.new) }
@@ -219,10 +219,10 @@ impl MemoryTarget {
 }
 
 impl Outlet for MemoryTarget {
-    ghost use Rattle.std.specs.Prelude.{◌≡◌, ◌+◌, ◌<◌, ◌++◌, true, false, length, take, vec_capacity, IsOk, IfOk, OnErr, is_ok, if◌then◌else◌};
+    ghost use Rattle.std.specs.Prelude.{◌≡◌, ◌+◌, ◌<◌, ◌++◌, Some, true, false, length, take, vec_capacity, IsOk, IfOk, OnErr, is_ok, if◌then◌else◌};
 
     ghost state = { λ t. record {
-      tells = true;
+      file = Some t.node;
       taken = t.bytes.items;
       failures = t.failures;
       is_flushed = t.is_flushed;
@@ -243,6 +243,7 @@ impl Outlet for MemoryTarget {
         ensures err { OnErr result (self.new.bytes.items ≡ self.old.bytes.items) }
         ensures failures { self.new.failures ≡ self.old.failures + (if is_ok result then 0 else 1) }
         ensures unflushed { self.new.is_flushed ≡ false }
+        ensures told { self.new.node ≡ self.old.node }
     {
         self.is_flushed = false;
         if self.bytes.extend_from_slice(bytes).is_err() {

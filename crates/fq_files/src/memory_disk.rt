@@ -6,14 +6,16 @@ use fq_text::{Feed, Look, OutOfMemory, ScriptFeed, Seen, SystemError};
 use std::alloc::Global;
 use std::collections::BTreeMap;
 
-// What an inode holds.
+// An inode. It is there once its file is created.
 #[derive(Drop)]
 pub struct Node {
     bytes: Vec<u8>,
+    is_there: bool,
 }
 
 /// A disk in memory, of regular files. Several names may lead to one inode, as hard links and
-/// symbolic links do.
+/// symbolic links do. A file can be created under the names that are reserved for it, and under no
+/// other name, as in a directory that isn't there.
 #[derive(Drop)]
 pub struct MemoryDisk {
     // The node of each name.
@@ -33,14 +35,12 @@ impl Opened for MemoryFile {
 }
 
 impl Written for MemoryTarget {
-    ghost inode = { λ target. target.node };
-
     ghost syncs = { λ target. target.syncs };
 }
 
 impl MemoryDisk {
-    ghost use Rattle.std.specs.Prelude.{◌≡◌, ◌≢◌, ◌<◌, ℕ, Some, None, List, OnOk, OnErr, IfOk, IfSome, length};
-    ghost use Rattle.fq_files.specs.Disks.{KeepsInodes, KeepsLeading, KeepsNames, KeepsOthers, new_inode};
+    ghost use Rattle.std.specs.Prelude.{◌≡◌, ◌≢◌, ℕ, Some, None, List, false, IsSome, IsTrue, IfSome, OnOk, OnErr};
+    ghost use Rattle.fq_files.specs.Disks.{KeepsInodes};
     ghost use Rattle.fq_files.specs.MemoryDisks.{disk_state_of};
 
     /// A disk that holds nothing.
@@ -54,6 +54,27 @@ impl MemoryDisk {
         }
     }
 
+    /// Reserves a name for a file that isn't there yet. If memory is refused, nothing changes.
+    pub fn reserve(&mut self, name: &str) -> Result<(), OutOfMemory>
+        ensures leads { OnOk result (IsSome ((disk_state_of self.new).inode_of name.now)) }
+        ensures absent { OnOk result ((i : ℕ) → (disk_state_of self.new).inode_of name.now ≡ Some i
+            → ((disk_state_of self.new).at i).is_there ≡ false) }
+        ensures inodes { KeepsInodes (disk_state_of self.old) (disk_state_of self.new) }
+        ensures others { (other : List ℕ) → other ≢ name.now
+            → (disk_state_of self.new).inode_of other ≡ (disk_state_of self.old).inode_of other }
+        ensures err { OnErr result ((disk_state_of self.new).inode_of
+            ≡ (disk_state_of self.old).inode_of) }
+    {
+        let key = String::from_str(self.alloc, name)?;
+        let node = self.nodes.len();
+        self.nodes.push(Node {
+            bytes: Vec::new(self.alloc),
+            is_there: false,
+        })?;
+        self.names.insert(key, node)?;
+        Ok(())
+    }
+
     /// Makes one more name of what a name leads to. If memory is refused, nothing changes.
     pub fn link(&mut self, of: &str, name: &str) -> Result<(), OutOfMemory>
         ensures ok { OnOk result ((i : ℕ) → (disk_state_of self.old).inode_of of.now ≡ Some i
@@ -61,62 +82,38 @@ impl MemoryDisk {
         ensures inodes { KeepsInodes (disk_state_of self.old) (disk_state_of self.new) }
         ensures others { (other : List ℕ) → other ≢ name.now
             → (disk_state_of self.new).inode_of other ≡ (disk_state_of self.old).inode_of other }
-        ensures err { OnErr result (KeepsNames (disk_state_of self.old)
-            (disk_state_of self.new)) }
+        ensures err { OnErr result ((disk_state_of self.new).inode_of
+            ≡ (disk_state_of self.old).inode_of) }
     {
-        if let Some(node) = self.node_of(of) {
+        if let Some(node) = self.names.get(of) {
+            let node = *node;
             let key = String::from_str(self.alloc, name)?;
             self.names.insert(key, node)?;
         }
         Ok(())
     }
 
-    // The node that a name leads to.
+    // The node that a name leads to, if its file is there.
     fn node_of(&self, name: &str) -> Option<usize>
-        ensures leads { result ≡ (disk_state_of self.now).inode_of name.now }
-        ensures within { IfSome result (λ node. node < length self.now.nodes.items) }
-    {
-        match self.names.get(name) {
-            Some(node) => {
-                let node = *node;
-                if node < self.nodes.len() {
-                    Some(node)
-                } else {
-                    None
-                }
-            }
-            None => None,
-        }
-    }
-
-    // Makes an inode that a name leads to, which led to none. If memory is refused, nothing
-    // changes.
-    fn create(&mut self, name: &str) -> Result<usize, OutOfMemory>
-        requires { (disk_state_of self.old).inode_of name.now ≡ None }
-        ensures leads { IfOk result (λ node. (disk_state_of self.new).inode_of name.now
+        ensures leads { IfSome result (λ node. (disk_state_of self.now).inode_of name.now
             ≡ Some node) }
-        ensures absent { IfOk result (λ node. node ≡ length self.old.nodes.items) }
-        ensures created { IfOk result (λ node. (disk_state_of self.new).at node ≡ new_inode) }
-        ensures others { IfOk result (λ node. KeepsOthers (disk_state_of self.old)
-            (disk_state_of self.new) node) }
-        ensures names { KeepsLeading (disk_state_of self.old) (disk_state_of self.new) }
-        ensures err { OnErr result (KeepsInodes (disk_state_of self.old)
-            (disk_state_of self.new)) }
+        ensures there { IfSome result (λ node. IsTrue
+            ((disk_state_of self.now).at node).is_there) }
+        ensures none { result ≡ None → (i : ℕ)
+            → (disk_state_of self.now).inode_of name.now ≡ Some i
+            → ((disk_state_of self.now).at i).is_there ≡ false }
     {
-        let node = self.nodes.len();
-        let key = String::from_str(self.alloc, name)?;
-        self.nodes.push(Node {
-            bytes: Vec::new(self.alloc),
-        })?;
-        if self.names.insert(key, node).is_err() {
-            let _ = self.nodes.pop();
-            return Err(OutOfMemory);
+        let node = *self.names.get(name)?;
+        if node < self.nodes.len() && self.nodes[node].is_there {
+            Some(node)
+        } else {
+            None
         }
-        Ok(node)
     }
 }
 
 impl Disk for MemoryDisk {
+    ghost use Rattle.std.specs.Prelude.{refl};
     ghost use Rattle.fq_files.specs.MemoryDisks.{disk_state_of};
 
     type File = MemoryFile;
@@ -127,23 +124,26 @@ impl Disk for MemoryDisk {
 
     ghost state = { disk_state_of };
 
-    #[tactic(auto, using(crate::proofs::NodeLemmas::within_there))]
+    ghost regular = { λ disk only i there. refl };
+
     fn open_read(&self, name: &str) -> Result<MemoryFile, SystemError> {
-        match self.node_of(name) {
-            Some(node) => Ok(MemoryFile { node }),
-            None => Err(MISSING),
-        }
+        let node = self.node_of(name).ok_or(MISSING)?;
+        Ok(MemoryFile { node })
     }
 
-    #[tactic(auto, using(crate::proofs::NodeLemmas::within_there))]
+    #[tactic(auto, using(crate::proofs::NodeLemmas::inode_set_same, crate::proofs::NodeLemmas::inode_set_other, crate::proofs::NodeLemmas::inode_found))]
     fn open_write(&mut self, name: &str) -> Result<MemoryFile, SystemError> {
-        if let Some(node) = self.node_of(name) {
-            return Ok(MemoryFile { node });
+        let node = *self.names.get(name).ok_or(MISSING)?;
+        if node >= self.nodes.len() {
+            return Err(MISSING);
         }
-        match self.create(name) {
-            Ok(node) => Ok(MemoryFile { node }),
-            Err(_) => Err(NO_MEMORY),
+        if !self.nodes[node].is_there {
+            self.nodes[node] = Node {
+                bytes: Vec::new(self.alloc),
+                is_there: true,
+            };
         }
+        Ok(MemoryFile { node })
     }
 
     #[tactic(auto, using(crate::proofs::NodeLemmas::inode_found))]
@@ -158,7 +158,7 @@ impl Disk for MemoryDisk {
         }
     }
 
-    #[tactic(auto, using(crate::proofs::NodeLemmas::inode_found))]
+    #[tactic(auto, using(crate::proofs::NodeLemmas::inode_found, crate::proofs::NodeLemmas::there_within))]
     fn find(&self, name: &str) -> Option<Facts> {
         let node = self.node_of(name)?;
         Some(Facts {
@@ -177,7 +177,7 @@ impl Disk for MemoryDisk {
         Ok(())
     }
 
-    #[tactic(auto, using(crate::proofs::NodeLemmas::inode_found, crate::proofs::NodeLemmas::regular_within))]
+    #[tactic(auto, using(crate::proofs::NodeLemmas::inode_found, crate::proofs::NodeLemmas::inode_past))]
     fn reader(&self, file: MemoryFile) -> Result<ScriptFeed, OutOfMemory> {
         let bytes = match self.nodes.get(file.node) {
             Some(node) => node.bytes.as_slice(),
@@ -202,7 +202,7 @@ impl Disk for MemoryDisk {
         MemoryTarget::new(self.alloc, file.node, syncs)
     }
 
-    #[tactic(auto, using(crate::proofs::NodeLemmas::inode_set_same, crate::proofs::NodeLemmas::inode_set_other, crate::proofs::NodeLemmas::inode_found, crate::proofs::NodeLemmas::regular_within))]
+    #[tactic(auto, using(crate::proofs::NodeLemmas::inode_set_same, crate::proofs::NodeLemmas::inode_set_other, crate::proofs::NodeLemmas::inode_found, crate::proofs::NodeLemmas::there_within))]
     fn close(&mut self, writer: MemoryTarget) -> Closed {
         let error = if writer.failures > 0 {
             Some(NO_MEMORY)

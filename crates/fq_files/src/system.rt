@@ -49,6 +49,7 @@ impl Opened for SystemFile {
 
 impl<'a, R: rt::Files<File = File>> Disk for SystemDisk<'a, R> {
     ghost use Rattle.std.specs.Prelude.{true, false, None};
+    ghost use Rattle.std.proofs.Common.{arith};
     ghost use Rattle.fq_files.specs.Disks.{absent_inode};
 
     type File = SystemFile;
@@ -59,11 +60,14 @@ impl<'a, R: rt::Files<File = File>> Disk for SystemDisk<'a, R> {
 
     ghost state = { λ _. record {
       tells = false;
+      only_regular = false;
       inode_of = λ _. None;
       at = λ _. absent_inode;
       refuses = λ _ _. true;
       fails = λ _ _. true;
     } };
+
+    ghost regular = { λ _ never. Prim.grind arith };
 
     fn open_read(&self, name: &str) -> Result<SystemFile, SystemError> {
         let file = File::open(self.runtime, name).map_err(SystemError::of)?;
@@ -145,8 +149,6 @@ pub struct SystemTarget<W> {
 }
 
 impl<W> Written for SystemTarget<W> {
-    ghost inode = { λ _. 0 };
-
     ghost syncs = { λ t. t.syncs };
 }
 
@@ -176,11 +178,11 @@ impl<W> SystemTarget<W> {
 }
 
 impl<W: Write + OpenFile> Outlet for SystemTarget<W> {
-    ghost use Rattle.std.specs.Prelude.{◌≡◌, ◌<◌, ◌≤◌, ◌+◌, false, [], length, IfOk, is_ok, if◌then◌else◌};
+    ghost use Rattle.std.specs.Prelude.{◌≡◌, ◌<◌, ◌≤◌, ◌+◌, None, false, [], length, IfOk, is_ok, if◌then◌else◌};
     ghost use Rattle.std.specs.Io.KnownBytes.{WriteAppends};
 
     ghost state = { λ t. record {
-      tells = false;
+      file = None;
       taken = [];
       failures = t.failed_calls;
       is_flushed = t.is_flushed;

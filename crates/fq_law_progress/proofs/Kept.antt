@@ -94,13 +94,7 @@ pub record IsKept (p : Run) (s : State) : Type 0 where
 
 -- it holds at the start
 pub kept_start : (p : Run) → IsKept p start
-kept_start p = record {
-  deal_turn = refl;
-  turn = refl;
-  closed = omega arith;
-  marks = λ i within. record { over = λ e. cc; told = λ e. cc };
-  phase = refl;
-}
+kept_start p = grind (arith, common_steps)
 
 -- Moves of a worker.
 
@@ -153,15 +147,7 @@ dealer_phase : (p : Run) (s : State) (d : Dealer) → ((s ≡ start) → ⊥) �
     → (DealsNoMore s.dealer s.start_item → DealsNoMore d s.start_item)
     → (s.dealer ≡ closes p.workers → d ≡ closes p.workers)
     → (caller : Caller) → Phase p s caller → Phase p (record s { dealer = d }) caller
-dealer_phase p s d begun on no_more ended begins ph = absurd (begun ph)
-dealer_phase p s d begun on no_more ended closes_start ph =
-    (record { all = ph.0.all; starts = λ e. absurd (on e) }, ph.1)
-dealer_phase p s d begun on no_more ended writes ph =
-    (record { all = ph.0.all; starts = λ e. absurd (on e) }, ph.1, ph.2)
-dealer_phase p s d begun on no_more ended drains ph =
-    (record { all = ph.0.all; starts = λ e. absurd (on e) }, ph.1)
-dealer_phase p s d begun on no_more ended awaits_dealer ph = (no_more ph.0, ph.1, ph.2)
-dealer_phase p s d begun on no_more ended (awaits_workers k) ph = (ended ph.0, ph.1, ph.2, ph.3)
+dealer_phase p s d begun on no_more ended caller ph = grind (arith, common_steps)
 
 dealer_moves : (p : Run) (s : State) (d : Dealer) → IsKept p s → ((s ≡ start) → ⊥) →
     (d ≡ awaits_start → ⊥)
@@ -169,24 +155,13 @@ dealer_moves : (p : Run) (s : State) (d : Dealer) → IsKept p s → ((s ≡ sta
     → (DealsNoMore s.dealer s.start_item → DealsNoMore d s.start_item)
     → (s.dealer ≡ closes p.workers → d ≡ closes p.workers)
     → IsKept p (record s { dealer = d })
-dealer_moves p s d kept begun on few more no_more ended = record {
-  deal_turn = kept.deal_turn;
-  turn = kept.turn;
-  closed = few;
-  marks = λ i within. record {
-    over = λ e. (let h = (kept.marks i within).over e in
-        omega (arith, h, more));
-    told = (kept.marks i within).told;
-  };
-  phase = dealer_phase p s d begun on no_more ended s.caller kept.phase;
-}
+dealer_moves p s d kept begun on few more no_more ended = grind (arith, common_steps, dealer_phase)
 
 -- What each move does to a seat.
 
 taken_holds : (c d : ℕ) (q : Seat) (r : Reply) → q.doing ≡ takes → 0 < q.blocks → Holds c d q →
     Holds c d (with_block_taken q (answers r))
-taken_holds c d q r e some h =
-    grind (arith, common_steps, in_seat, in_hand)
+taken_holds c d q r e some h = grind (arith, common_steps, in_seat, in_hand)
 
 stop_stays : (rs : List Reply) (r : Reply) → has_stop rs ≡ true → has_stop (rs ++ r ∷ []) ≡ true
 stop_stays [] r h = cc
@@ -200,65 +175,44 @@ stop_comes (stop ∷ rs) = refl
 
 answered_holds : (c d : ℕ) (q : Seat) (r : Reply) → q.doing ≡ answers r → Holds c d q →
     Holds c d (with_reply q r)
-answered_holds c d q texts e h =
-    grind (arith, common_steps, in_seat, in_hand, length-append, stop_stays)
-answered_holds c d q stop e h =
-    grind (arith, common_steps, in_seat, in_hand, length-append, stop_comes)
+answered_holds c d q r e h =
+    grind (arith, common_steps, stop_stays, stop_comes, length-append)
 
 emptied_holds : (c d : ℕ) (q : Seat) → q.doing ≡ empties → 0 < q.blocks → Holds c d q →
     Holds c d (with_block_taken q empties)
-emptied_holds c d q e some h = record {
-  most = omega (arith, ap in_hand e, h.most);
-  all =
-      inl (h.stopped e);
-  stopped = λ x. h.stopped e;
-}
+emptied_holds c d q e some h = grind (arith, common_steps)
 
 in_hand_none : (x : Doing) → (x ≡ takes) ⊎ (x ≡ empties) → in_hand x ≡ 0
-in_hand_none x (inl e) = ap in_hand e
-in_hand_none x (inr e) = ap in_hand e
+in_hand_none x e = grind (arith, common_steps)
 
 left_holds : (c d : ℕ) (q : Seat) → (q.doing ≡ takes) ⊎ (q.doing ≡ empties) → Holds c d q →
     Holds c d (record q { doing = left })
-left_holds c d q e h =
-    grind (arith, common_steps, in_seat, in_hand_none)
+left_holds c d q e h = grind (arith, common_steps, in_seat, in_hand_none)
 
 -- a worker that has neither left nor leaves now
 working_closes : (k i : ℕ) (q q' : Seat) → (q.doing ≡ left → ⊥) → (q'.doing ≡ left → ⊥) →
     q'.marked ≡ q.marked → Closes k i q → Closes k i q'
-working_closes k i q q' before later same h =
-    record { over = λ e. absurd (later e); told = λ e. absurd (before (h.told (sym same ∙ e))) }
+working_closes k i q q' before later same h = grind (arith, common_steps)
 
 answered_closes : (k i : ℕ) (q : Seat) (r : Reply) → q.doing ≡ answers r → Closes k i q →
     Closes k i (with_reply q r)
-answered_closes k i q texts e h = working_closes k i q (with_reply q texts) (λ x. cc) (λ x. cc) refl
-    h
-answered_closes k i q stop e h = working_closes k i q (with_reply q stop) (λ x. cc) (λ x. cc) refl h
+answered_closes k i q r e h = grind (arith, common_steps, working_closes)
 
 -- Moves of the dealer and the collector.
 
 dealt_holds : (c d : ℕ) (q : Seat) → Holds c d q → Holds c (suc d) (with_block q)
-dealt_holds c d q h = record {
-  most = omega (arith, h.most);
-  all =
-      ⊎_elim (λ x. inl x) (λ x. inr (omega (arith, x))) h.all;
-  stopped = h.stopped;
-}
+dealt_holds c d q h = grind (arith, common_steps)
 
 stop_after : (rs : List Reply) → next_reply rs ≡ Some texts → has_stop (drop 1 rs) ≡ has_stop rs
-stop_after [] e = cc
-stop_after (texts ∷ rs) e = refl
-stop_after (stop ∷ rs) e = cc
+stop_after rs e = grind (arith, common_steps)
 
 wrote_holds : (c d : ℕ) (q : Seat) → next_reply q.replies ≡ Some texts → Holds c d q →
     Holds (suc c) d (with_reply_taken q)
-wrote_holds c d q e h =
-    grind (arith, common_steps, one_less, some_reply, stop_after)
+wrote_holds c d q e h = grind (arith, common_steps, one_less, some_reply, stop_after)
 
 share_next : (workers n t : ℕ) → t ≡ turn_at workers n →
     share workers (suc n) t ≡ suc (share workers n t)
-share_next workers n t e = subst (λ k. share workers (suc n) k ≡ suc (share workers n k)) (sym e)
-    (share_here workers n)
+share_next workers n t e = grind (arith, common_steps, share, share_here)
 
 share_same : (workers n t i : ℕ) → t ≡ turn_at workers n → (i ≡ t → ⊥) →
     share workers (suc n) i ≡ share workers n i
@@ -277,18 +231,11 @@ writes_all p s turn next all =
     grind (arith, common_steps, changed_each, share, share_next, wrote_holds, share_same)
 
 no_more_deals : (d : Dealer) (item : Bool) → d ≡ deals → DealsNoMore d item → ⊥
-no_more_deals d item e (inl h) = (let a = h.0 in cc)
-no_more_deals d item e (inr h) = (let a = h.1 in cc)
+no_more_deals d item e h = grind (arith, common_steps)
 
 deal_phase : (p : Run) (s : State) → s.dealer ≡ deals → s.deal_turn ≡ turn_at p.workers s.dealt →
     (caller : Caller) → Phase p s caller → Phase p (after p s deal) caller
-deal_phase p s e turn begins ph = (let a : s.dealer ≡ awaits_start =
-    ap (λ (x : State). x.dealer) ph in cc)
-deal_phase p s e turn closes_start ph = (ph.0, deals_all p s turn ph.1)
-deal_phase p s e turn writes ph = (ph.0, deals_all p s turn ph.1, ph.2)
-deal_phase p s e turn drains ph = ph
-deal_phase p s e turn awaits_dealer ph = absurd (no_more_deals s.dealer s.start_item e ph.0)
-deal_phase p s e turn (awaits_workers k) ph = (let a = ph.0 in cc)
+deal_phase p s e turn caller ph = grind (arith, common_steps, deals_all, no_more_deals)
 
 -- a seat with a reply taken, or with its mark taken
 taken_closes : (k i : ℕ) (q : Seat) → Closes k i q → Closes k i (with_reply_taken q)
@@ -304,14 +251,10 @@ with_block_closes k i q h = record { over = h.over; told = h.told }
 close_all : (p : Run) (d : Dealer) (seats : ℕ → Seat) (j : ℕ) (q : Seat) → CloseAll p d seats →
     (Closes (closed_lanes d) j (seats j) → Closes (closed_lanes d) j q) →
     CloseAll p d (changed j q seats)
-close_all p d seats j q all here = changed_each (λ i seat. i < p.workers →
-    Closes (closed_lanes d) i seat) j q seats (λ h. here (all j h)) (λ i other. all i)
+close_all p d seats j q all here = grind (arith, common_steps, changed_each)
 
 closed_by : (d : Dealer) → 0 < closed_lanes d → (k : ℕ) × (d ≡ closes k)
-closed_by awaits_start h = absurd (omega arith)
-closed_by deals h = absurd (omega arith)
-closed_by passes_start h = absurd (omega arith)
-closed_by (closes k) h = (k, refl)
+closed_by d h = grind (arith, common_steps)
 
 start_holds : Holds 0 0 new_seat
 start_holds = record { most = omega arith; all = inr (omega arith); stopped = λ e. cc }
@@ -324,26 +267,13 @@ start_share workers i = start_holds
 caller_moves : (p : Run) (s : State) (c : Caller) (item mark : Bool) → IsKept p s →
     Phase p (record s { caller = c; start_item = item; start_mark = mark }) c →
     IsKept p (record s { caller = c; start_item = item; start_mark = mark })
-caller_moves p s c item mark kept ph = record {
-  deal_turn = kept.deal_turn;
-  turn =
-      kept.turn;
-  closed = kept.closed;
-  marks = kept.marks;
-  phase = ph;
-}
+caller_moves p s c item mark kept ph = grind (arith, common_steps)
 
 takes_from : (p : Run) (s : State) (c : Caller) (j : ℕ) (q : Seat) → IsKept p s →
     (Closes (closed_lanes s.dealer) j (s.seats j) → Closes (closed_lanes s.dealer) j q) →
     Phase p (record s { caller = c; seats = changed j q s.seats }) c →
     IsKept p (record s { caller = c; seats = changed j q s.seats })
-takes_from p s c j q kept ends ph = record {
-  deal_turn = kept.deal_turn;
-  turn = kept.turn;
-  closed = kept.closed;
-  marks = close_all p s.dealer s.seats j q kept.marks ends;
-  phase = ph;
-}
+takes_from p s c j q kept ends ph = grind (arith, common_steps, close_all)
 
 -- All moves.
 
@@ -352,52 +282,30 @@ pub keeps : (p : Run) (s : State) (m : Move) → IsRun p → IsKept p s → May 
     IsKept p (after p s m)
 keeps p s put_start run kept may =
     grind (arith, common_steps, Phase, caller_moves, HoldAll, start_share)
-keeps p s give_up run kept may =
-    grind (arith, common_steps, Phase, caller_moves, AreQuiet)
-keeps p s close_start run kept may =
-    let ph : Phase p s closes_start = subst (Phase p s) may kept.phase in
-    caller_moves p s writes s.start_item true kept (ph.0, ph.1, refl)
+keeps p s give_up run kept may = grind (arith, common_steps, Phase, caller_moves, AreQuiet)
+keeps p s close_start run kept may = grind (arith, common_steps, caller_moves, true)
 keeps p s write run kept may =
     grind (arith, common_steps, Phase, close_all, taken_closes, writes_all)
-keeps p s fail_to_write run kept may =
-    grind (arith, common_steps, Phase, takes_from, taken_closes)
-keeps p s hear_stop run kept may =
-    grind (arith, common_steps, Phase, takes_from, taken_closes)
-keeps p s find_mark run kept may =
-    grind (arith, common_steps, Phase, takes_from, marked_closes)
-keeps p s (drop_reply j) run kept may =
-    grind (arith, common_steps, takes_from, taken_closes, Phase)
-keeps p s (drop_mark j) run kept may =
-    grind (arith, common_steps, takes_from, marked_closes, Phase)
+keeps p s fail_to_write run kept may = grind (arith, common_steps, Phase, takes_from, taken_closes)
+keeps p s hear_stop run kept may = grind (arith, common_steps, Phase, takes_from, taken_closes)
+keeps p s find_mark run kept may = grind (arith, common_steps, Phase, takes_from, marked_closes)
+keeps p s (drop_reply j) run kept may = grind (arith, common_steps, takes_from, taken_closes, Phase)
+keeps p s (drop_mark j) run kept may = grind (arith, common_steps, takes_from, marked_closes, Phase)
 keeps p s end_drain run kept may =
     let ph : Phase p s drains = subst (Phase p s) may.0 kept.phase in
     let first : 0 < p.workers = omega (arith, run.some_workers) in
     let over = (kept.marks 0 first).over ((kept.marks 0 first).told (may.1 0 first)) in
     caller_moves p s awaits_dealer s.start_item s.start_mark kept
     (inr (closed_by s.dealer over), (λ i h. inl ((kept.marks i h).told (may.1 i h))), ph.1)
-keeps p s join_dealer run kept may =
-    grind (arith, common_steps, Phase, caller_moves)
+keeps p s join_dealer run kept may = grind (arith, common_steps, Phase, caller_moves)
 keeps p s (join_worker k) run kept may =
     grind (arith, common_steps, Phase, caller_moves, below_next)
-keeps p s take_start run kept may =
-    grind (arith, common_steps, dealer_moves)
-keeps p s find_no_start run kept may =
-    grind (arith, common_steps, dealer_moves)
-keeps p s deal run kept may =
-    record {
-      deal_turn = ap (λ t. suc t % p.workers) kept.deal_turn;
-      turn = kept.turn;
-      closed = kept.closed;
-      marks = close_all p s.dealer s.seats s.deal_turn (with_block (s.seats s.deal_turn)) kept.marks
-          (with_block_closes _ _ (s.seats s.deal_turn));
-      phase = deal_phase p s may.0 kept.deal_turn s.caller kept.phase;
-    }
-keeps p s end_reading run kept may =
-    grind (arith, common_steps, dealer_moves, no_more_deals)
-keeps p s pass_start run kept may =
-    grind (arith, common_steps, dealer_moves)
-keeps p s (close_blocks k) run kept may =
-    grind (arith, common_steps, dealer_moves)
+keeps p s take_start run kept may = grind (arith, common_steps, dealer_moves)
+keeps p s find_no_start run kept may = grind (arith, common_steps, dealer_moves)
+keeps p s deal run kept may = grind (arith, common_steps, close_all, with_block_closes, deal_phase)
+keeps p s end_reading run kept may = grind (arith, common_steps, dealer_moves, no_more_deals)
+keeps p s pass_start run kept may = grind (arith, common_steps, dealer_moves)
+keeps p s (close_blocks k) run kept may = grind (arith, common_steps, dealer_moves)
 keeps p s (take_block j r) run kept may =
     let q = s.seats j in
     worker_moves p s j (with_block_taken q (answers r)) kept (omega (arith, may.0, run.few_threads))

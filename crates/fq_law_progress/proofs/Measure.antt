@@ -8,13 +8,11 @@ use Rattle.std.proofs.lemmas.Grind.{common_steps}
 
 -- a reply that is taken is one less
 pub one_less : (rs : List Reply) → 0 < length rs → suc (length (drop 1 rs)) ≡ length rs
-one_less [] h = absurd (omega arith)
-one_less (r ∷ rs) h = refl
+one_less rs h = grind (arith, common_steps)
 
 -- a lane that has a next reply is not empty
 pub some_reply : (r : Reply) (rs : List Reply) → next_reply rs ≡ Some r → 0 < length rs
-some_reply r [] e = cc
-some_reply r (x ∷ rs) e = omega arith
+some_reply r rs e = grind (arith, common_steps)
 
 reply_less : (q : Seat) → 0 < length q.replies → suc (seat_left (with_reply_taken q)) ≡ seat_left q
 reply_less q h = omega (arith, one_less q.replies h)
@@ -32,13 +30,11 @@ block_less q d some few = omega arith
 
 answered : (q : Seat) (r : Reply) → q.doing ≡ answers r →
     suc (seat_left (with_reply q r)) ≡ seat_left q
-answered q texts e = omega (arith, ap doing_left e, length-append q.replies (texts ∷ []))
-answered q stop e = omega (arith, ap doing_left e, length-append q.replies (stop ∷ []))
+answered q r e = grind (arith, common_steps, length-append)
 
 leaving : (q : Seat) → (q.doing ≡ takes) ⊎ (q.doing ≡ empties) →
     suc (seat_left (record q { doing = left })) ≡ seat_left q
-leaving q (inl e) = omega (arith, ap doing_left e)
-leaving q (inr e) = omega (arith, ap doing_left e)
+leaving q e = grind (arith, common_steps)
 
 -- a seat with less
 seat_less : (p : Run) (j : ℕ) (q : Seat) (seats : ℕ → Seat) → j < p.workers →
@@ -48,39 +44,20 @@ seat_less p j q seats within less = omega (arith, left_changed p.workers j q sea
 
 -- every move, in any state, leaves less to be done
 pub leaves_less : MovesLeaveLess
-leaves_less p s put_start run may = omega (arith, ap (caller_left p) may.0)
-leaves_less p s give_up run may = omega (arith, ap (caller_left p) may.0)
-leaves_less p s close_start run may = omega (arith, ap (caller_left p) may)
-leaves_less p s write run may =
-    grind (arith, common_steps, seat_less, reply_less, some_reply)
-leaves_less p s fail_to_write run may =
-    grind (arith, common_steps, seat_less, reply_less, some_reply)
-leaves_less p s hear_stop run may =
-    grind (arith, common_steps, seat_less, reply_less, some_reply)
-leaves_less p s find_mark run may =
-    grind (arith, common_steps, no_mark_more, left_changed)
-leaves_less p s (drop_reply j) run may =
-    grind (arith, common_steps, seat_less, reply_less)
-leaves_less p s (drop_mark j) run may =
-    grind (arith, common_steps, seat_less, mark_less)
-leaves_less p s end_drain run may = omega (arith, ap (caller_left p) may.0)
-leaves_less p s join_dealer run may = omega (arith, ap (caller_left p) may.0)
-leaves_less p s (join_worker k) run may = omega (arith, ap (caller_left p) may.0)
-leaves_less p s take_start run may = omega (arith, ap (dealer_left p) may.0)
-leaves_less p s find_no_start run may = omega (arith, ap (dealer_left p) may.0)
-leaves_less p s deal run may =
-    grind (arith, common_steps, left_changed)
-leaves_less p s end_reading run may = omega (arith, ap (dealer_left p) may.0)
-leaves_less p s pass_start run may = omega (arith, ap (dealer_left p) may.0)
-leaves_less p s (close_blocks k) run may = omega (arith, ap (dealer_left p) may.0)
-leaves_less p s (take_block j r) run may =
-    grind (arith, common_steps, seat_less, block_less)
-leaves_less p s (put_reply j r) run may =
-    grind (arith, common_steps, seat_less, answered)
-leaves_less p s (empty_block j) run may =
-    grind (arith, common_steps, seat_less, block_less)
-leaves_less p s (leave j) run may =
-    grind (arith, common_steps, seat_less, leaving)
+leaves_less p s m run may =
+    grind (
+      arith,
+      common_steps,
+      seat_less,
+      reply_less,
+      some_reply,
+      no_mark_more,
+      left_changed,
+      mark_less,
+      block_less,
+      answered,
+      leaving,
+    )
 
 -- Runs.
 

@@ -12,8 +12,7 @@ same_number j = grind (arith, nat_tests)
 -- at each number it is the new seat, or the old one at another number
 each_by : (P : ℕ → Seat → Type 0) (j : ℕ) (q : Seat) (seats : ℕ → Seat) (i : ℕ) (b : Bool) →
     (i == j) ≡ b → P j q → ((i ≡ j → ⊥) → P i (seats i)) → P i (cond b q (seats i))
-each_by P j q seats i true e here away = subst (λ k. P k q) (sym (eqb-true i j e)) here
-each_by P j q seats i false e here away = away (eqb-false i j e)
+each_by P j q seats i b e here away = grind (arith, common_steps, eqb-false, eqb-true)
 
 -- what holds of the changed seat, and of the old ones at other numbers, holds at each number
 pub changed_each : (P : ℕ → Seat → Type 0) (j : ℕ) (q : Seat) (seats : ℕ → Seat) → P j q →
@@ -40,8 +39,7 @@ left_by : (n j : ℕ) (q : Seat) (seats : ℕ → Seat) → j < suc n →
     ≡ seats_left (suc n) seats + seat_left q
 left_by n j q seats h below true e =
     grind (arith, common_steps, eqb-true, left_outside, changed_here)
-left_by n j q seats h below false e =
-    grind (arith, common_steps, eqb-false, changed_away)
+left_by n j q seats h below false e = grind (arith, common_steps, eqb-false, changed_away)
 
 -- a seat that is changed changes the sum
 pub left_changed : (n j : ℕ) (q : Seat) (seats : ℕ → Seat) → j < n →

@@ -2,6 +2,7 @@
 use Rattle.std.proofs.Common.{◌≡◌, ℕ, zero, suc, ◌+◌, ◌%◌, ◌<◌, ◌≤◌, Bool, true, false, ◌==◌, arith}
 use Rattle.std.proofs.Math.Decide.{le_ind}
 use Rattle.std.proofs.lemmas.Bool.Decides.{nat_tests}
+use Rattle.std.proofs.lemmas.Grind.{common_steps}
 
 -- the worker of a block
 abbrev pub turn_at : ℕ → ℕ → ℕ
@@ -19,8 +20,7 @@ share workers (suc n) j = share workers n j + bit (j == turn_at workers n)
 
 -- each block goes to one of the workers
 pub turn_below : (workers n : ℕ) → 1 ≤ workers → turn_at workers n < workers
-turn_below workers zero some = omega arith
-turn_below workers (suc n) some = omega arith
+turn_below workers n some = grind (arith, common_steps)
 
 bit_same : (j : ℕ) → bit (j == j) ≡ 1
 bit_same j = grind (arith, nat_tests)

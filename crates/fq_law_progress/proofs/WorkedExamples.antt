@@ -3,6 +3,7 @@ use Rattle.std.proofs.Common.{◌≡◌, ℕ, zero, suc, ◌<◌, List, [], ◌�
 use Rattle.fq_law_progress.specs.Model.{Run, texts, stop, left, State, start}
 use Rattle.fq_law_progress.specs.Moves.{Move, put_start, close_start, give_up, write, fail_to_write, hear_stop, find_mark, drop_reply, drop_mark, end_drain, join_dealer, join_worker, take_start, find_no_start, deal, end_reading, pass_start, close_blocks, take_block, put_reply, empty_block, leave, May, AreMoves, after_all, at_seat}
 use Rattle.fq_law_progress.specs.Progress.{HasEnded, moves_left}
+use Rattle.std.proofs.lemmas.Grind.{common_steps}
 
 -- two workers, lanes with room for one, and three blocks
 abbrev two : Run
@@ -26,16 +27,13 @@ are_moves : AreMoves two start ordinary
 are_moves = search rules
 
 of_two : (P : ℕ → Type 0) → P 0 → P 1 → (j : ℕ) → j < 2 → P j
-of_two P first second zero h = first
-of_two P first second (suc zero) h = second
-of_two P first second (suc (suc j)) h = absurd (omega arith)
+of_two P first second j h = grind (arith, common_steps)
 
 has_ended : HasEnded two (after_all two start ordinary)
 has_ended = record {
   caller = refl;
   dealer = refl;
-  workers =
-      of_two (λ j. ((after_all two start ordinary).seats j).doing ≡ left) refl refl;
+  workers = of_two (λ j. ((after_all two start ordinary).seats j).doing ≡ left) refl refl;
 }
 
 -- it has 27 moves, of at most 28
@@ -62,8 +60,7 @@ stopped_ended : HasEnded two (after_all two start stopped)
 stopped_ended = record {
   caller = refl;
   dealer = refl;
-  workers =
-      of_two (λ j. ((after_all two start stopped).seats j).doing ≡ left) refl refl;
+  workers = of_two (λ j. ((after_all two start stopped).seats j).doing ≡ left) refl refl;
 }
 
 none_written : (after_all two start stopped).written ≡ 0
@@ -84,8 +81,7 @@ failed_ended : HasEnded two (after_all two start failed)
 failed_ended = record {
   caller = refl;
   dealer = refl;
-  workers =
-      of_two (λ j. ((after_all two start failed).seats j).doing ≡ left) refl refl;
+  workers = of_two (λ j. ((after_all two start failed).seats j).doing ≡ left) refl refl;
 }
 
 -- The second worker's thread is refused.

@@ -15,8 +15,8 @@ use Rattle.fq_pair.specs.Walks.{source_state, interleaved_state, KeepsSettings, 
 use Rattle.fq_pair.proofs.SideLemmas.{drawn, used}
 
 -- what holds of a value that is there
-some_and : {A : Type 0} (o : Option A) (P Q : A → Type 0) → ((x : A) → P x → Q x) → IsSomeAnd o P →
-    IsSomeAnd o Q
+pub some_and : {A : Type 0} (o : Option A) (P Q : A → Type 0) → ((x : A) → P x → Q x) →
+    IsSomeAnd o P → IsSomeAnd o Q
 some_and o P Q then held = grind (arith, common_steps)
 
 -- what holds of the current pair, if there is one only after a further pair was returned

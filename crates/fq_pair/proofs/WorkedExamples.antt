@@ -11,6 +11,7 @@ use Rattle.fq_pair.specs.declared.fault.InputFault.TheVariants.{Text, MateMissin
 use Rattle.fq_pair.specs.Mates.{Mates, mates_in, name_of, names_match}
 use Rattle.fq_pair.specs.Pairing.{pairs}
 use Rattle.fq_pair.specs.Interleaved.{interleaved_pairs}
+use Rattle.fq_pair.specs.Forms.{TwoTexts, InterleavedText, names_of_pair}
 use Rattle.fq_pair.specs.Outputs.{texts_of, counts_of}
 use Rattle.fq_pair.specs.Summaries.{summary_of, capped}
 
@@ -210,6 +211,16 @@ interleaved_names = refl
 interleaved_names_unchecked : (interleaved_pairs false Sanger 0
     (codes "@b/1\nA\n+\nI\n@c/2\nA\n+\nI\n")).fault ≡ None
 interleaved_names_unchecked = refl
+
+-- the names of pair 2, which differ, and none if there is no pair 2
+second_names : names_of_pair 2 TwoTexts Sanger (codes "@a/1\nA\n+\nI\n@b/1 x\nA\n+\nI\n")
+    (codes "@a/2 x\nA\n+\nI\n@c/2\nA\n+\nI\n")
+    ≡ Some (record { forward = codes "b"; reverse = codes "c" })
+second_names = refl
+
+no_second_names : names_of_pair 2 InterleavedText Sanger (codes "@a/1\nA\n+\nI\n@b/2\nA\n+\nI\n") []
+    ≡ None
+no_second_names = refl
 
 -- Logs.
 

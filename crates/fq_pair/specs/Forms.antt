@@ -1,8 +1,11 @@
 -- The two forms of paired inputs: two texts, or an interleaved one.
-use Rattle.std.specs.Prelude.{ℕ, ◌*◌, Bool, Result, List}
+use Rattle.std.specs.Prelude.{ℕ, ◌-◌, ◌*◌, Bool, false, Option, Result, List}
+use Rattle.std.specs.List.{slice_get}
+use Rattle.std.specs.Option.{option_map}
 use Rattle.fq_text.specs.declared.encoding.Encoding.{Encoding}
 use Rattle.fq_pair.specs.declared.side.Side.{Side}
 use Rattle.fq_pair.specs.declared.fault.InputFault.{InputFault}
+use Rattle.fq_pair.specs.Mates.{MateNames, mate_names}
 use Rattle.fq_pair.specs.Pairing.{Pairs, PairFront, pairs, pair_front}
 use Rattle.fq_pair.specs.Interleaved.{interleaved_pairs, interleaved_front}
 use Rattle.fq_pair.specs.PairSources.{failed_on}
@@ -18,6 +21,11 @@ abbrev pub pairs_in : Form → Bool → Encoding → ℕ → List ℕ → List �
 pairs_in TwoTexts check encoding given forward reverse = pairs check encoding given forward reverse
 pairs_in InterleavedText check encoding given text same =
     interleaved_pairs check encoding given text
+
+-- the names of pair k of inputs given as bytes, of all pairs that there are if names aren't checked
+abbrev pub names_of_pair : ℕ → Form → Encoding → List ℕ → List ℕ → Option MateNames
+names_of_pair k form encoding forward reverse =
+    option_map mate_names (slice_get (pairs_in form false encoding 0 forward reverse).mates (k - 1))
 
 -- what comes first in the lines of the inputs, after the pairs given
 abbrev pub front_in : Form → Bool → Encoding → ℕ → List (List ℕ) → List (List ℕ) → PairFront

@@ -1,5 +1,6 @@
 -- A source of pairs from an interleaved text, and what its calls return.
 use Rattle.std.specs.Prelude.{◌≡◌, ℕ, ◌+◌, ◌*◌, ◌<◌, ◌≤◌, Bool, true, false, IsTrue, Option, Some, None, Result, [], length}
+use Rattle.std.specs.Option.{IsSomeAnd}
 use Rattle.std.specs.declared.result.Result.TheVariants as res
 use Rattle.fq_text.specs.Devices.{FeedState}
 use Rattle.fq_text.specs.Lines.{lines, whole_part}
@@ -11,9 +12,9 @@ use Rattle.fq_pair.specs.declared.side.Side.TheVariants.{Forward, Reverse}
 use Rattle.fq_pair.specs.declared.fault.InputFault.{InputFault}
 use Rattle.fq_pair.specs.declared.fault.InputFault.TheVariants.{Text}
 use Rattle.fq_pair.specs.Mates.{Mates}
-use Rattle.fq_pair.specs.Pairing.{Pairs, PairFront, Ended, Stopped, Met, belong, with_pair}
+use Rattle.fq_pair.specs.Pairing.{Pairs, PairFront, Ended, Stopped, Met, first_names, belong, with_pair}
 use Rattle.fq_pair.specs.Interleaved.{side_after, interleaved_pairs, interleaved_front}
-use Rattle.fq_pair.specs.PairSources.{is_from_outside, is_cut_short, if_cut, if_endless, failed_on, pair_of}
+use Rattle.fq_pair.specs.PairSources.{is_from_outside, is_cut_short, if_cut, if_endless, if_unmatched, failed_on, pair_of, names_kept}
 
 -- A source of pairs: the source of both mates, the forward mate that was read last, whether names
 -- are checked, how many pairs were given, the end or the fault once that was returned, and the
@@ -103,7 +104,7 @@ WasReading old new _ = Unit {0}
 
 -- A fault was returned. If it is one of the text, no pair was left, and the pairs end with it. A
 -- read call that failed, or was one too many, was made for the next record, before the feed had
--- reported its end.
+-- reported its end. If names differ, they are kept, and are those of the records that come first.
 pub record StopsPairs {F : Type 0} (state : F → FeedState) (old new : InterleavedSourced F)
     (why : InputFault) : Type 0 where
   pub fault_is : IsTrue (state old.source.feed).tells → is_from_outside why ≡ false →
@@ -115,6 +116,9 @@ pub record StopsPairs {F : Type 0} (state : F → FeedState) (old new : Interlea
   pub going : is_cut_short why ≡ true → old.source.ended ≡ false
   pub endless : (let most : Type 0 = new.source.max_reads ≤ new.source.taken in
       if_endless most most why)
+  pub names : if_unmatched (IsSomeAnd (names_kept new.last (Some new.forward) new.source.current)
+      (λ names. IsTrue (state old.source.feed).tells →
+      first_names (front_of state (record old { check_names = false })) ≡ Some names)) why
   pub reading : WasReading old.source new.source why
   pub given : new.given ≡ old.given
   pub last : new.last ≡ Some (res.Err why)

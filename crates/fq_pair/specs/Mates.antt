@@ -48,6 +48,10 @@ abbrev pub names_in : List ℕ → List ℕ → MateNames
 names_in forward reverse =
     record { forward = name_of Forward forward; reverse = name_of Reverse reverse }
 
+-- the names of a pair
+abbrev pub mate_names : Mates → MateNames
+mate_names m = names_in m.forward.title m.reverse.title
+
 -- the lengths of the names in two titles
 abbrev pub lengths_of : List ℕ → List ℕ → NameLengths
 lengths_of forward reverse = record {

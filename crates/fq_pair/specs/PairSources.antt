@@ -13,8 +13,8 @@ use Rattle.fq_pair.specs.declared.side.Side.TheVariants.{Forward, Reverse}
 use Rattle.fq_pair.specs.declared.fault.InputFault.{InputFault}
 use Rattle.fq_pair.specs.declared.fault.InputFault.TheVariants.{Text, NamesDiffer}
 use Rattle.fq_pair.specs.declared.name.NameLengths.{NameLengths}
-use Rattle.fq_pair.specs.Mates.{Mates, MateNames, mates_in, name_lengths, names_in, names_match}
-use Rattle.fq_pair.specs.Pairing.{Pairs, PairFront, Ended, Stopped, Met, belong, pair_front, pairs, with_pair}
+use Rattle.fq_pair.specs.Mates.{Mates, MateNames, mates_in, mate_names, name_lengths, names_match}
+use Rattle.fq_pair.specs.Pairing.{Pairs, PairFront, Ended, Stopped, Met, first_names, belong, pair_front, pairs, with_pair}
 
 -- A source of pairs: the sources of its mates, whether names are checked, how many pairs were
 -- given, the end or the fault once that was returned, and the current pair.
@@ -133,7 +133,27 @@ WasReading old new (Text Reverse fault) = (new.reverse.last ≡ Some (res.Err fa
     × ((new.forward.given ≡ old.forward.given + 1) ⊎ (new.forward.last ≡ Some (res.Ok tt)))
 WasReading old new _ = Unit {0}
 
--- A fault was returned. If it is one of the texts, no pair was left, and the pairs end with it.
+-- the pair of two current records, if they are one
+abbrev pub pair_of : Bool → Option Read → Option Read → Option Mates
+pair_of false forward reverse = None
+pair_of true None reverse = None
+pair_of true (Some forward) None = None
+pair_of true (Some forward) (Some reverse) = Some (mates_in forward reverse)
+
+-- the names of two current records, if they were the last result of the source because they differ
+abbrev pub names_kept : Option (Result (Unit {0}) InputFault) → Option Read → Option Read →
+    Option MateNames
+names_kept (Some (res.Err (NamesDiffer k))) forward reverse =
+    option_map mate_names (pair_of true forward reverse)
+names_kept _ forward reverse = None
+
+-- what holds if the fault is that names differ
+abbrev pub if_unmatched : Type 0 → InputFault → Type 0
+if_unmatched P (NamesDiffer k) = P
+if_unmatched P _ = Unit {0}
+
+-- A fault was returned. If it is one of the texts, no pair was left, and the pairs end with it. If
+-- names differ, they are kept, and are those of the records that come first.
 pub record StopsPairs {F G : Type 0} (state : F → FeedState) (state' : G → FeedState)
     (old new : PairSourced F G) (why : InputFault) : Type 0 where
   pub fault_is : IsTrue (state old.forward.feed).tells → IsTrue (state' old.reverse.feed).tells →
@@ -145,6 +165,10 @@ pub record StopsPairs {F G : Type 0} (state : F → FeedState) (state' : G → F
   pub lacks : is_cut_short why ≡ true → LacksPair state state' old new
   pub endless : if_endless (new.forward.max_reads ≤ new.forward.taken)
       (new.reverse.max_reads ≤ new.reverse.taken) why
+  pub names : if_unmatched
+      (IsSomeAnd (names_kept new.last new.forward.current new.reverse.current)
+      (λ names. IsTrue (state old.forward.feed).tells → IsTrue (state' old.reverse.feed).tells →
+      first_names (front_of state state' (record old { check_names = false })) ≡ Some names)) why
   pub reading : WasReading old new why
   pub given : new.given ≡ old.given
   pub last : new.last ≡ Some (res.Err why)
@@ -164,13 +188,6 @@ pub record IsReady {F G : Type 0} (forward : Sourced F) (reverse : Sourced G)
   pub forward_given : forward.given ≡ given
   pub reverse_given : reverse.given ≡ given
 
--- the pair of two current records, if they are one
-abbrev pub pair_of : Bool → Option Read → Option Read → Option Mates
-pair_of false forward reverse = None
-pair_of true None reverse = None
-pair_of true (Some forward) None = None
-pair_of true (Some forward) (Some reverse) = Some (mates_in forward reverse)
-
 -- if there is a current pair, these are the lengths of its names
 abbrev pub HasNames : Option NameLengths → Option Mates → Type 0
 HasNames names current = IfSome current (λ m. names ≡ Some (name_lengths m))
@@ -187,11 +204,6 @@ KeepsUnmatched (Some (res.Err (NamesDiffer k))) forward reverse =
     IsSomeAnd (pair_of true forward reverse)
     (λ m. names_match m.forward.title m.reverse.title ≡ false)
 KeepsUnmatched _ forward reverse = Unit {0}
-
--- the names of two current records
-abbrev pub names_held : Option Read → Option Read → Option MateNames
-names_held forward reverse =
-    option_map (λ m. names_in m.forward.title m.reverse.title) (pair_of true forward reverse)
 
 -- a source of pairs that goes on, and one that has stopped
 abbrev pub asked : {F G : Type 0} → Sourced F → Sourced G → Bool → ℕ → Bool → PairSourced F G

@@ -10,7 +10,7 @@ use Rattle.fq_pair.specs.declared.side.Side.{Side}
 use Rattle.fq_pair.specs.declared.side.Side.TheVariants.{Forward, Reverse}
 use Rattle.fq_pair.specs.declared.fault.InputFault.{InputFault}
 use Rattle.fq_pair.specs.declared.fault.InputFault.TheVariants.{Text, MateMissing, NamesDiffer}
-use Rattle.fq_pair.specs.Mates.{Mates, mates_in, names_match}
+use Rattle.fq_pair.specs.Mates.{Mates, MateNames, mates_in, mate_names, names_match}
 
 -- pairs, and the fault after them if there is one
 pub record Pairs : Type 0 where
@@ -83,6 +83,11 @@ pub data PairFront : Type 0 where
   Ended : PairFront
   Stopped : InputFault → PairFront
   Met : Mates → List (List ℕ) → List (List ℕ) → PairFront
+
+-- the names of the pair that comes first
+abbrev pub first_names : PairFront → Option MateNames
+first_names (Met m forward reverse) = Some (mate_names m)
+first_names _ = None
 
 -- the pair of two records, if they belong together
 abbrev pub met : Bool → ℕ → Mates → List (List ℕ) → List (List ℕ) → PairFront

@@ -1,5 +1,5 @@
 -- Reading pairs, one after the other.
-use Rattle.std.specs.Prelude.{◌≡◌, ℕ, suc, ◌+◌, ◌-◌, ◌*◌, ◌≤◌, ◌⊎◌, Bool, true, false, IsTrue, Option, None, Result, List, [], ◌∷◌, ◌++◌, length, take}
+use Rattle.std.specs.Prelude.{◌≡◌, ℕ, suc, ◌+◌, ◌-◌, ◌*◌, ◌≤◌, ◌⊎◌, Bool, true, false, IsTrue, Option, Some, None, Result, List, [], ◌∷◌, ◌++◌, length, take}
 use Rattle.std.specs.Option.{IsSomeAnd}
 use Rattle.std.specs.declared.result.Result.TheVariants as res
 use Rattle.fq_text.specs.Devices.{FeedState}
@@ -10,10 +10,10 @@ use Rattle.fq_text.specs.Sources.{Sourced}
 use Rattle.fq_pair.specs.declared.side.Side.{Side}
 use Rattle.fq_pair.specs.declared.side.Side.TheVariants.{Forward, Reverse}
 use Rattle.fq_pair.specs.declared.fault.InputFault.{InputFault}
-use Rattle.fq_pair.specs.Mates.{Mates}
-use Rattle.fq_pair.specs.Pairing.{PairFront, Ended, Stopped, Met}
+use Rattle.fq_pair.specs.Mates.{Mates, MateNames}
+use Rattle.fq_pair.specs.Pairing.{PairFront, Ended, Stopped, Met, first_names}
 use Rattle.fq_pair.specs.Interleaved.{side_after}
-use Rattle.fq_pair.specs.PairSources.{PairSourced, is_from_outside, is_cut_short, if_cut, if_endless}
+use Rattle.fq_pair.specs.PairSources.{PairSourced, is_from_outside, is_cut_short, if_cut, if_endless, if_unmatched, names_kept}
 use Rattle.fq_pair.specs.InterleavedSources.{InterleavedSourced}
 use Rattle.fq_pair.specs.Forms.{Form, TwoTexts, InterleavedText, pairs_in, front_in, records_of_pairs, failed_at}
 
@@ -42,7 +42,8 @@ side_state state s = record {
 }
 
 -- A source of pairs: its form, its two sides, its settings, how many pairs it gave, whether it goes
--- on, and the current pair. Both sides of an interleaved text are the same.
+-- on, the current pair, and the names that differ, if it stopped at them. Both sides of an
+-- interleaved text are the same.
 pub record SourceState : Type 0 where
   pub form : Form
   pub forward : SideState
@@ -53,6 +54,7 @@ pub record SourceState : Type 0 where
   pub given : ℕ
   pub last : Option (Result (Unit {0}) InputFault)
   pub current : Option Mates
+  pub names : Option MateNames
 
 abbrev pub source_state : {F G : Type 0} → (F → FeedState) → (G → FeedState) → PairSourced F G →
     SourceState
@@ -66,6 +68,7 @@ source_state state state' s = record {
   given = s.given;
   last = s.last;
   current = s.current;
+  names = names_kept s.last s.forward.current s.reverse.current;
 }
 
 abbrev pub interleaved_state : {F : Type 0} → (F → FeedState) → InterleavedSourced F → SourceState
@@ -79,6 +82,7 @@ interleaved_state state s = record {
   given = s.given;
   last = s.last;
   current = s.current;
+  names = names_kept s.last (Some s.forward) s.source.current;
 }
 
 -- the bytes from which a side can still read records
@@ -132,6 +136,10 @@ abbrev pub next_front : SourceState → PairFront
 next_front s = front_in s.form s.check_names s.encoding s.given (lines (rest s.forward))
     (lines (rest s.reverse))
 
+-- the names of the pair that comes next, whether they match or not
+abbrev pub next_names : SourceState → Option MateNames
+next_names s = first_names (next_front (record s { check_names = false }))
+
 -- these pairs were read, and the source goes on
 pub record Walks (old new : SourceState) (ms : List Mates) : Type 0 where
   pub same : KeepsSettings old new
@@ -178,6 +186,8 @@ pub record MeetsFault (old new : SourceState) (why : InputFault) : Type 0 where
       ≡ []
   pub next : old.form ≡ InterleavedText → if_cut (IsNext old new) why
   pub going : old.form ≡ InterleavedText → is_cut_short why ≡ true → old.forward.ended ≡ false
+  pub names : if_unmatched (IsSomeAnd new.names (λ names. IsTrue old.forward.tells →
+      IsTrue old.reverse.tells → next_names old ≡ Some names)) why
   pub endless : if_endless (new.forward.max_reads ≤ new.forward.taken)
       (new.reverse.max_reads ≤ new.reverse.taken) why
 

@@ -5,7 +5,7 @@ ghost use Rattle.std.specs.Option.{IsSomeAnd};
 ghost use Rattle.std.specs.Result.{result_and};
 ghost use Rattle.fq_text.specs.Reading.{text_limit};
 ghost use Rattle.fq_text.specs.Sources.{KeepsCount};
-ghost use Rattle.fq_pair.specs.PairSources.{IsBounded, pair_of, HasNames, KeepsUnmatched, is_unmatched, names_held};
+ghost use Rattle.fq_pair.specs.PairSources.{IsBounded, pair_of, HasNames, KeepsUnmatched, is_unmatched, names_kept};
 ghost use Rattle.fq_pair.specs.InterleavedSources.{asked, stopped, GivesPair, EndsPairs, StopsPairs, failed_in, IsReady};
 
 use crate::answer::{keep, read_record};
@@ -208,10 +208,9 @@ impl<F: Feed> MixedSource<F> {
     /// The names of the mates at which the source stopped, if its last result is
     /// [`InputFault::NamesDiffer`].
     pub fn unmatched_names(&self, alloc: Global) -> Result<Option<UnmatchedNames>, OutOfMemory>
-        ensures some { IfOk result (λ o. IsSome o → is_unmatched self.now.last ≡ true) }
         ensures none { result ≡ Ok None → is_unmatched self.now.last ≡ false }
-        ensures names { IfOk result (λ o. IfSome o (λ names.
-            names_held (Some self.now.forward) self.now.source.current ≡ Some names)) }
+        ensures names { IfOk result (λ names.
+            names ≡ names_kept self.now.last (Some self.now.forward) self.now.source.current) }
     {
         match self.last {
             Some(Err(InputFault::NamesDiffer(_))) => {

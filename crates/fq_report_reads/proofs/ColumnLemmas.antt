@@ -15,7 +15,7 @@ use Rattle.fq_report_reads.specs.Courses.{Part}
 use Rattle.fq_report_reads.specs.Letters.{is_a, is_c, is_g, is_t, is_n}
 use Rattle.fq_report_reads.proofs.RowLemmas.{plus_none}
 use Rattle.fq_report_reads.specs.Counting.{AtMost, IsFew, by_position, lane_score, one_if, placed}
-use Rattle.fq_report_reads.specs.Columns.{AreCleared, AreFew, columns_from, columns_of, columns_plus, columns_tables, each_column, empty_rows, first_rows, lanes_at, no_columns, one_in}
+use Rattle.fq_report_reads.specs.Columns.{AreFew, columns_from, columns_of, columns_plus, columns_tables, empty_rows, first_rows, lanes_at, no_columns, one_in}
 use Rattle.fq_report_reads.proofs.PositionLemmas.{one_if_small, ones_joined, placed_joined, placed_none, placed_one, rows_assoc, rows_comm, scores_small}
 use Rattle.fq_report_reads.proofs.FewLemmas.{lanes_bases, lanes_scores, mapped_at_most, placed_short, row_behind, row_cut, row_more, row_nothing, row_weaker, scores_at_most, zeros_in_front, zeros_mapped}
 use Rattle.std.proofs.lemmas.Grind.{common_steps}
@@ -23,8 +23,7 @@ use Rattle.std.proofs.lemmas.Grind.{common_steps}
 -- columns are the same if each of them is
 pub columns_same : (x y : Columns) → x.bases ≡ y.bases → x.score_sum ≡ y.score_sum →
     x.q30_bases ≡ y.q30_bases → x.a ≡ y.a → x.c ≡ y.c → x.g ≡ y.g → x.t ≡ y.t → x.n ≡ y.n → x ≡ y
-columns_same x y bases score_sum q30_bases a c g t n =
-    let same : each_column (λ rows. rows) x ≡ each_column (λ rows. rows) y = cc in same
+columns_same x y bases score_sum q30_bases a c g t n = grind (arith, common_steps)
 
 -- of three sets of columns, it makes no difference which two are added first
 pub columns_assoc : (x y z : Columns) → columns_plus (columns_plus x y) z ≡ columns_plus x
@@ -42,8 +41,7 @@ columns_none x = simp plus_none
 -- of three sets of columns, the last can be added before the second
 pub columns_swap : (x y z : Columns) → columns_plus (columns_plus x y) z ≡ columns_plus
     (columns_plus x z) y
-columns_swap x y z = columns_assoc x y z ∙ ap (columns_plus x) (columns_comm y z)
-    ∙ sym (columns_assoc x z y)
+columns_swap x y z = grind (arith, common_steps, columns_assoc, columns_comm)
 
 -- sums of two, added up
 pub columns_four : (w x y z : Columns) → columns_plus (columns_plus w x) (columns_plus y z)
@@ -163,11 +161,6 @@ pub few_weaker : (x : Columns) (rows rows' len len' reads reads' : ℕ) → AreF
     rows' ≤ rows → len ≤ len' → reads ≤ reads' → AreFew rows' len' reads' x
 few_weaker x rows rows' len len' reads reads' few less order bound =
     grind (arith, common_steps, row_weaker)
-
--- columns that were cleared hold nothing of a few reads
-pub few_cleared : (x y : Columns) (rows count most : ℕ) → AreCleared x y →
-    AreFew rows count most x → AreFew rows 0 0 y
-few_cleared x y rows count most cleared few = grind (arith)
 
 -- no lanes add nothing to the rows of a few reads
 pub lanes_nothing : (x : Columns) (rows len reads at : ℕ) (e : Encoding) → AreFew rows len reads x →

@@ -7,7 +7,7 @@ use Rattle.fq_trim.specs.declared.step.Step.{Step}
 use Rattle.fq_trim.specs.declared.trimming.Kept.{Kept}
 use Rattle.fq_trim.specs.Keeping.{kept, kept_of, only, scores, places}
 use Rattle.fq_trim.proofs.PlaceLemmas.{length-places, length-scores, scores_at, scores_of_part}
-use Rattle.fq_report_reads.specs.Courses.{Part, part_at, whole, Course, alone, after, course_of}
+use Rattle.fq_report_reads.specs.Courses.{Part, whole, Course, alone, after, course_of}
 use Rattle.fq_report_reads.proofs.LeftLaws.{at, kept_within, kept_append, kept_none}
 use Rattle.std.proofs.lemmas.Grind.{common_steps}
 
@@ -36,8 +36,7 @@ kept_course number start n p course = record {
 after_places : (number start n : ℕ) (p : Part) (course : Course) → 0 < n →
     after number (places start n) p course ≡ kept_course number start n p course
 after_places number start zero p course some = absurd (omega arith)
-after_places number start (suc n) p course some =
-    ap (λ m. kept_course number start (suc m) p course) (length-places (suc start) n)
+after_places number start (suc n) p course some = grind (arith, common_steps, length-places)
 
 -- a list of steps that keeps something
 pub course_kept : (number : ℕ) (steps : List Step) (others : List (List Step)) (p : Part)
@@ -59,8 +58,7 @@ pub course_dropped : (number : ℕ) (steps : List Step) (others : List (List Ste
       shortened = [];
       dropped = number ∷ [];
     }
-course_dropped number steps others p is =
-    ap (λ (at : List ℕ). after number at p (course_of (suc number) others (part_at at p))) is
+course_dropped number steps others p is = grind (arith, common_steps, at)
 
 -- the same in turn, if the list is at its number
 pub next_kept : (number : ℕ) (lists : List (List Step)) (encoding : Encoding) (seq qual : List ℕ)
@@ -97,8 +95,7 @@ pub none_next : (number : ℕ) (lists : List (List Step)) (p : Part) → length 
       dropped =
           [];
     }
-none_next number lists p all = ap (λ (ls : List (List Step)). course_of number ls p)
-    (drop_all number lists all)
+none_next number lists p all = grind (arith, common_steps, drop_all)
 
 -- steps, each in a list of its own
 pub alone_length : (steps : List Step) → length (alone steps) ≡ length steps
@@ -201,16 +198,10 @@ module _ (steps : List Step) (read : Read) (number start stop : ℕ)
       let n : count ≡ start + k.stop - (start + k.start) = omega arith in
       let seq = part_again read.seq start m k.start count (omega arith) in
       let qual = part_again read.qual start m k.start count (omega arith) in
-      let to : Part → Course = λ p. kept_course number k.start count at_hand
-      (course_of (number + 1) (drop (number + 1) (alone steps)) p) in
-      next_kept number (alone steps) read.encoding at_hand.seq at_hand.qual k (omega arith)
-      (ap (λ (s : List Step). kept s (scores read.encoding at_hand.qual))
-      (alone_at steps number in_steps) ∙ is) fits (omega arith)
-      ∙ ap (λ (xs : List ℕ). to (part read.encoding xs (take count (drop k.start at_hand.qual))))
-      seq
-      ∙ ap (λ (xs : List ℕ). to (part read.encoding (take count (drop (start + k.start) read.seq))
-      xs)) qual
-      ∙ ap (λ (i : ℕ). to (cut (start + k.start) i (whole read))) n
+      let at_number = alone_at steps number in_steps in
+      let next = next_kept number (alone steps) read.encoding at_hand.seq at_hand.qual k (omega arith)
+      (ap (λ (s : List Step). kept s (scores read.encoding at_hand.qual)) at_number ∙ is) fits
+      (omega arith) in cc
 
   -- a step that keeps no place of what is left drops the read
   pub cut_dropped : kept (only number steps) (scores read.encoding at_hand.qual) ≡ [] →

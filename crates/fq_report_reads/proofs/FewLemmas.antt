@@ -1,7 +1,7 @@
 -- Rows of a few reads, of which a vector holds some.
 use Rattle.std.proofs.Common.{◌≡◌, ℕ, zero, suc, ◌+◌, ◌<◌, ◌≤◌, true, false, nat_le, List, [], ◌∷◌, ◌++◌, length, take, map, get_or, replicate, refl, ap, ap₂, sym, ◌∙◌, arith, eqb, max, Fits, w8, w16, subst}
 use Rattle.std.specs.List.{list_all}
-use Rattle.std.proofs.lemmas.List.{append_assoc, length-append, length-replicate, length-map, map-append, get_or_past, replicate-append-replicate, map-id, append-nil}
+use Rattle.std.proofs.lemmas.List.{append_assoc, length-append, length-replicate, length-map, map-append, get_or_past, get_or-replicate, replicate-append-replicate, map-id, append-nil}
 use Rattle.std.proofs.lemmas.Bool.{and_parts, le-leb, leb-true, ne_eqb}
 use Rattle.fq_text.specs.declared.encoding.Encoding.{Encoding}
 use Rattle.fq_text.specs.Scores.{is_scored}
@@ -68,8 +68,7 @@ word_sums at xs ys few bytes =
 
 bytes_small : (ys : List ℕ) → Each1 (λ y. y ≤ 255) ys → AtMost 65535 ys
 bytes_small [] each k = let none = get_or_past {X = ℕ} [] k 0 (omega arith) in omega arith
-bytes_small (y ∷ ys) each zero = let first : y ≤ 255 = each.0 in let least : y ≤ 65535 =
-    omega arith in least
+bytes_small (y ∷ ys) each zero = grind (arith, common_steps)
 bytes_small (y ∷ ys) each (suc k) = bytes_small ys each.1 k
 
 -- a vector of at most 1 per lane is added to counts of 8 bits from its place on
@@ -105,8 +104,7 @@ shifted_at_most (suc at) most ys small zero = let least : 0 ≤ most = omega ari
 shifted_at_most (suc at) most ys small (suc k) = shifted_at_most at most ys small k
 
 length-shifted : (at : ℕ) (ys : List ℕ) → length (replicate at 0 ++ ys) ≡ at + length ys
-length-shifted at ys = length-append (replicate at 0) ys
-    ∙ ap (λ n. n + length ys) (length-replicate {A = ℕ} at 0)
+length-shifted at ys = grind (arith, common_steps, length-append, length-replicate)
 
 -- with at most `more` added to each of some rows, none is above `most + more`
 pub row_more : (rows len len' most more most' at n : ℕ) (xs ys : List ℕ) → IsFew rows len most xs →
@@ -150,8 +148,7 @@ row_cut rows len len' most more at n xs ys few small long bound is room =
 -- zeros after a vector change nothing
 plus_zeros_behind : (xs ys : List ℕ) (k : ℕ) → Small xs → length ys + k ≤ length xs →
     rows_plus xs (ys ++ replicate k 0) ≡ rows_plus xs ys
-plus_zeros_behind xs [] k small room = sym (grown_within xs k small (omega arith))
-    ∙ sym (plus_none xs)
+plus_zeros_behind xs [] k small room = grind (arith, common_steps, grown_within, plus_none)
 plus_zeros_behind [] (y ∷ ys) k small room = absurd (omega arith)
 plus_zeros_behind (x ∷ xs) (y ∷ ys) k small room =
     ap (λ ns. capped_sum x y ∷ ns) (plus_zeros_behind xs ys k (λ j. small (suc j)) (omega arith))
@@ -230,11 +227,16 @@ scores_at_most e (b ∷ bs) all (suc k) = scores_at_most e bs
 -- rows such as some reads can give are such as more reads can give that reach further
 pub row_weaker : (rows rows' len len' most most' : ℕ) (xs : List ℕ) → IsFew rows len most xs →
     rows' ≤ rows → len ≤ len' → most ≤ most' → IsFew rows' len' most' xs
-row_weaker rows rows' len len' most most' xs few less order bound = record {
-  size = let size = few.size in omega arith;
-  behind = λ k from. few.behind k (omega arith);
-  small = λ k. let one = few.small k in omega arith;
-}
+row_weaker rows rows' len len' most most' xs few less order bound = grind (arith, common_steps)
+
+-- rows that count 0 hold nothing
+pub row_none : (rows : ℕ) (xs : List ℕ) → xs ≡ replicate rows 0 → IsFew rows 0 0 xs
+row_none rows xs is = grind (arith, common_steps, length-replicate, get_or-replicate, get_or_past)
+
+-- after all are set to 0, rows hold nothing
+pub row_cleared : (rows len most : ℕ) (xs ys : List ℕ) → length ys ≡ length xs →
+    ((k : ℕ) → get_or ys k 0 ≡ 0) → IsFew rows len most xs → IsFew rows 0 0 ys
+row_cleared rows len most xs ys size none few = grind (arith)
 
 -- adding no numbers changes nothing
 pub row_nothing : (rows len most at : ℕ) (xs : List ℕ) → IsFew rows len most xs → most ≤ 65535 →

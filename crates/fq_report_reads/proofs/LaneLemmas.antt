@@ -1,5 +1,5 @@
 -- Bases that are counted by vectors, one after the other.
-use Rattle.std.proofs.Common.{◌≡◌, ℕ, zero, suc, ◌+◌, ◌<◌, ◌≤◌, Bool, true, false, List, [], ◌∷◌, ◌++◌, length, take, drop, map, set, get_or, replicate, refl, ap, ap₂, sym, ◌∙◌, arith, max, ◌-◌, ◌||◌, take-add, subst}
+use Rattle.std.proofs.Common.{◌≡◌, ℕ, zero, suc, ◌+◌, ◌<◌, ◌≤◌, Bool, true, List, [], ◌∷◌, ◌++◌, length, take, drop, map, set, get_or, replicate, refl, ap, ap₂, sym, ◌∙◌, arith, max, ◌-◌, ◌||◌, take-add, subst}
 use Rattle.std.specs.List.{list_all}
 use Rattle.std.proofs.lemmas.List.{append_assoc, length-take-le, length-map, take-append-drop, take_all, length-drop, drop-drop, drop_more, get_or_at, set_at, map_more}
 use Rattle.std.proofs.lemmas.List.Folds.{list_all-append}
@@ -19,8 +19,7 @@ use Rattle.std.proofs.lemmas.Grind.{common_steps}
 -- Lanes that hold scored bytes, and zeros beside them.
 
 or_true : (a b : Bool) → b ≡ true → a || b ≡ true
-or_true true b is = refl
-or_true false b is = is
+or_true a b is = grind (arith, common_steps)
 
 -- bytes that have scores are valid lanes
 pub scored_lanes : (e : Encoding) (q : List ℕ) → list_all (is_scored e) q ≡ true →
@@ -113,8 +112,8 @@ module _ (start now : Columns) (at from : ℕ) (e : Encoding) (seq qual : List �
 
   -- if no bases are left, all are counted
   pub all_counted : length seq ≤ from → now ≡ columns_plus start (columns_from at e seq qual)
-  all_counted done = so_far ∙ ap₂ (λ x y. columns_plus start (columns_from at e x y))
-      (take_all from seq done) (take_all from qual (omega arith))
+  all_counted done =
+      grind (arith, common_steps, take_all)
 
   -- while a read is counted, the rows are such as 254 reads can give
   pub still_few : (rows : ℕ) → at + length qual ≤ rows → AreFew rows 10032 253 start →

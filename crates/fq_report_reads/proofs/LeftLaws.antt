@@ -81,8 +81,7 @@ part_of_part p ps is below = grind (arith, common_steps, map_at)
 
 left_after : (n : ℕ) (ps : List ℕ) (p : Part) (c : Course) (r : List ℕ → Part) → c.left ≡ r ps →
     r [] ≡ part_at [] p → (after n ps p c).left ≡ r ps
-left_after n [] p c r left none = sym none
-left_after n (a ∷ ps) p c r left none = left
+left_after n ps p c r left none = grind (arith, common_steps)
 
 -- what lists of steps leave of a part in turn is what they leave of it as one list
 pub left_in_turn : (lists : List (List Step)) (n : ℕ) (p : Part) → length p.qual ≡ length p.seq →
@@ -117,8 +116,7 @@ left_in_turn (steps ∷ lists) n p same =
 
 -- a list in which each member is replaced is empty just if the list is
 pub not_empty : (f : ℕ → ℕ) (xs : List ℕ) → is_empty (map f xs) ≡ is_empty xs
-not_empty f [] = refl
-not_empty f (x ∷ xs) = refl
+not_empty f xs = grind (arith, common_steps)
 
 -- a read survives lists of steps in turn just if it survives them as one list
 pub survives_in_turn : (lists : List (List Step)) (read : Read) →
@@ -129,11 +127,9 @@ survives_in_turn lists read same = grind (arith, common_steps, left_in_turn, not
 -- the same of steps, each in a list of its own
 pub left_as_kept : (steps : List Step) (read : Read) → length read.qual ≡ length read.seq →
     (course (alone steps) read).left ≡ part_at (kept_places steps read) (whole read)
-left_as_kept steps read same = left_in_turn (alone steps) 0 (whole read) same
-    ∙ ap (λ (ss : List Step). part_at (kept_places ss read) (whole read)) (alone_are_all steps)
+left_as_kept steps read same = grind (arith, common_steps, left_in_turn, alone_are_all)
 
 -- a read survives steps in turn just if they keep a place of it
 pub survives_as_kept : (steps : List Step) (read : Read) → length read.qual ≡ length read.seq →
     survives (course (alone steps) read).left ≡ not (is_empty (kept_places steps read))
-survives_as_kept steps read same = ap survives (left_as_kept steps read same)
-    ∙ ap not (not_empty (at read.seq) (kept_places steps read))
+survives_as_kept steps read same = grind (arith, common_steps, left_as_kept, not_empty)

@@ -1,16 +1,18 @@
 -- Counts of the reads of a side, added up in any order. One more read for a sum is one more for
 -- what is added.
-use Rattle.std.proofs.Common.{◌≡◌, ℕ, Bool, true, false, not, ◌&&◌, cond, List, [], ◌∷◌, min, max, refl, ap, ◌∙◌, arith}
+use Rattle.std.proofs.Common.{◌≡◌, ℕ, Bool, true, false, not, ◌&&◌, cond, List, [], ◌∷◌, min, max, refl, arith}
 use Rattle.fq_text.specs.Grammar.{Read}
 use Rattle.fq_trim.specs.Sums.{capped_sum}
 use Rattle.fq_report_reads.specs.declared.bases.BaseTally.{BaseTally}
 use Rattle.fq_report_reads.specs.declared.reads.ReadsTally.{ReadsTally}
 use Rattle.fq_report_reads.specs.declared.side.SideTally.{SideTally}
-use Rattle.fq_report_reads.specs.Rows.{with_one, row_of, counted, counted_if, counted_all, rows_plus}
+use Rattle.fq_report_reads.specs.Rows.{counted, counted_if, counted_all, rows_plus}
 use Rattle.fq_report_reads.specs.Courses.{Part, whole, Course, survives}
 use Rattle.fq_report_reads.specs.SideTallies.{bases_plus, with_part, reads_plus, behind_of, with_read, side_plus}
 use Rattle.fq_report_reads.proofs.PositionLemmas.{capped_assoc, rows_assoc, rows_comm}
+use Rattle.std.proofs.lemmas.Grind.{common_steps}
 use Rattle.fq_report_reads.proofs.SideColumnSums.{side_columns_read, side_columns_comm, side_columns_assoc}
+use Rattle.std.proofs.lemmas.Grind.{common_steps}
 
 min_assoc : (a b c : ℕ) → min (min a b) c ≡ min a (min b c)
 min_assoc a b c = omega arith
@@ -48,8 +50,7 @@ rows_if false n xs ys = refl
 rows_all : (ns xs ys : List ℕ) → counted_all ns (rows_plus xs ys) ≡ rows_plus xs
     (counted_all ns ys)
 rows_all [] xs ys = refl
-rows_all (n ∷ ns) xs ys = ap (counted_all ns) (rows_assoc xs ys (with_one (row_of n) []))
-    ∙ rows_all ns xs (counted n ys)
+rows_all (n ∷ ns) xs ys = grind (arith, common_steps, rows_assoc, rows_all ns xs (counted n ys))
 
 reads_part : (p : Part) (a b : ReadsTally) →
     with_part p (reads_plus a b) ≡ reads_plus a (with_part p b)
@@ -62,8 +63,7 @@ part_if false p s t = refl
 
 sum_if : (b : Bool) (n s t : ℕ) → cond b (capped_sum (capped_sum s t) n) (capped_sum s t)
     ≡ capped_sum s (cond b (capped_sum t n) t)
-sum_if true n s t = capped_assoc s t n
-sum_if false n s t = refl
+sum_if b n s t = grind (arith, common_steps, capped_assoc)
 
 -- one more read for the sum of two sides is one more for the second
 pub side_read : (read : Read) (c : Course) (mate_survives : Bool) (s t : SideTally) →

@@ -1,5 +1,5 @@
 -- Rows of bases by position, and their sums, in one column.
-use Rattle.std.proofs.Common.{◌≡◌, ℕ, zero, suc, ◌+◌, ◌*◌, ◌<◌, ◌≤◌, Bool, true, false, cond, nat_le, List, [], ◌∷◌, ◌++◌, length, take, drop, map, set, get_or, replicate, sum, min, refl, ap, ap₂, sym, ◌∙◌, arith}
+use Rattle.std.proofs.Common.{◌≡◌, ℕ, zero, suc, ◌+◌, ◌*◌, ◌<◌, ◌≤◌, Bool, true, cond, nat_le, List, [], ◌∷◌, ◌++◌, length, take, drop, map, set, get_or, replicate, sum, min, refl, ap, ap₂, sym, ◌∙◌, arith}
 use Rattle.std.specs.List.{list_all}
 use Rattle.std.proofs.lemmas.List.{append_assoc, length-append, length-replicate, length-map, map-append}
 use Rattle.std.proofs.lemmas.List.Sums.{sum_by-cons, sum_by-append}
@@ -34,8 +34,7 @@ rows_assoc (x ∷ xs) (y ∷ ys) (z ∷ zs) = ap₂ (λ n ns. n ∷ ns) (capped_
 pub rows_comm : (xs ys : List ℕ) → rows_plus xs ys ≡ rows_plus ys xs
 rows_comm [] ys = sym (plus_none ys)
 rows_comm (x ∷ xs) [] = refl
-rows_comm (x ∷ xs) (y ∷ ys) = let first : capped_sum x y ≡ capped_sum y x = omega arith in
-    ap₂ (λ n ns. n ∷ ns) first (rows_comm xs ys)
+rows_comm (x ∷ xs) (y ∷ ys) = grind (arith, common_steps, rows_comm xs ys)
 
 -- numbers that a u64 can hold
 abbrev pub Small : List ℕ → Type 0
@@ -163,8 +162,7 @@ cut_one : (most at a : ℕ) → cut_at most (replicate at 0 ++ (a ∷ [])) ≡ r
     0 ++ (a ∷ [])
 unfolding cut_at
 cut_one zero zero a = grind (arith, common_steps, sum-cons)
-cut_one (suc most) zero a = let f : 0 ≡ min 0 (suc most) = omega arith in
-    ap (λ n. replicate n 0 ++ (a ∷ [])) f
+cut_one (suc most) zero a = grind (arith, common_steps)
 cut_one zero (suc at) a = grind (arith, common_steps, sum-cons, sum-append, sum-zeros)
 cut_one (suc most) (suc at) a =
     let f : suc (min at most) ≡ min (suc at) (suc most) = omega arith in
@@ -178,13 +176,9 @@ placed_one at row a is = ap (λ n. replicate n 0 ++ (a ∷ [])) is ∙ sym (cut_
 
 -- Bases that follow one another.
 
-one_at_most : (b : Bool) → cond b 1 0 ≤ 1
-one_at_most true = omega arith
-one_at_most false = omega arith
-
 -- a test counts a number once, or not at all
 pub one_if_small : (p : ℕ → Bool) (x : ℕ) → one_if p x ≤ 1
-one_if_small p x = one_at_most (p x)
+one_if_small p x = grind (arith, common_steps)
 
 ones_small : (f : ℕ → ℕ) → ((x : ℕ) → f x ≤ 1) → (xs : List ℕ) → sum (map f xs) ≤ length xs
 ones_small f small [] = omega arith

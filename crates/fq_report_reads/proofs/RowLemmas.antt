@@ -1,5 +1,5 @@
 -- Rows and their sums.
-use Rattle.std.proofs.Common.{◌≡◌, ℕ, zero, suc, ◌+◌, ◌<◌, ◌≤◌, List, [], ◌∷◌, length, take, set, get_or, replicate, min, max, refl, ap, ap₂, arith, add-one, ◌-◌, sym, ◌∙◌}
+use Rattle.std.proofs.Common.{◌≡◌, ℕ, zero, suc, ◌+◌, ◌<◌, ◌≤◌, List, [], ◌∷◌, length, take, set, get_or, replicate, min, max, refl, ap, ap₂, arith, add-one, sym, ◌∙◌}
 use Rattle.std.proofs.lemmas.List.{get_or_read, length-append, length-replicate}
 use Rattle.fq_trim.specs.Sums.{capped_sum}
 use Rattle.fq_report_reads.specs.Rows.{with_one, rows_plus}
@@ -33,8 +33,7 @@ pub plus_more : (xs ys : List ℕ) (i : ℕ) → i < length xs → i < length ys
 plus_more [] ys i lx ly = absurd (omega arith)
 plus_more (x ∷ xs) [] i lx ly = absurd (omega arith)
 plus_more (x ∷ xs) (y ∷ ys) zero lx ly = ap (λ ns. capped_sum x y ∷ ns) (plus_none xs)
-plus_more (x ∷ xs) (y ∷ ys) (suc i) lx ly = ap (λ ns. capped_sum x y ∷ ns)
-    (plus_more xs ys i (omega arith) (omega arith))
+plus_more (x ∷ xs) (y ∷ ys) (suc i) lx ly = grind (arith, common_steps, plus_more xs ys i)
 
 -- Rows are added to rows that are at least as many.
 pub grown_long : (xs ys zs : List ℕ) (i : ℕ) →
@@ -70,9 +69,3 @@ grown_plus [] (y ∷ ys) small =
 grown_plus (x ∷ xs) (y ∷ ys) small =
     let same : capped_sum (capped_sum x 0) y ≡ capped_sum x y = omega arith in
     ap₂ (λ n ns. n ∷ ns) same (grown_plus xs ys (λ k. small (suc k)))
-
--- of rows that are set to 0 in turn the first i count 0, and those after them are as they were
-pub record AreCleared (i : ℕ) (rows old : List ℕ) : Type 0 where
-  pub size : length rows ≡ length old
-  pub front : (k : ℕ) → k < i → get_or rows k 0 ≡ 0
-  pub after : (k : ℕ) → i ≤ k → get_or rows k 0 ≡ get_or old k 0

@@ -1,5 +1,5 @@
 -- The bases of a side by their position, as they are counted once each.
-use Rattle.std.proofs.Common.{◌≡◌, ℕ, ◌+◌, ◌-◌, ◌≤◌, Bool, true, false, Some, List, ◌++◌, length, take, drop, refl, ap, ap₂, sym, ◌∙◌, arith}
+use Rattle.std.proofs.Common.{◌≡◌, ℕ, ◌+◌, ◌-◌, ◌≤◌, Bool, true, false, Some, List, length, take, drop, ap, ap₂, sym, ◌∙◌, arith}
 use Rattle.std.specs.List.{list_all}
 use Rattle.std.proofs.lemmas.List.{take_all, take_rest, take-append-drop, length-drop, length-take-le}
 use Rattle.fq_text.specs.declared.encoding.Encoding.{Encoding}
@@ -27,12 +27,6 @@ side_of paired unpaired rest paired_moved unpaired_moved = record {
   unpaired = columns_plus unpaired unpaired_moved;
 }
 
-abbrev three : Columns → Columns → Columns → SideColumns
-three before paired unpaired = record { before = before; paired = paired; unpaired = unpaired }
-
-three_are : {b b' p p' u u' : Columns} → b ≡ b' → p ≡ p' → u ≡ u' → three b p u ≡ three b' p' u'
-three_are b p u = cc
-
 -- the columns of a side with these five counters
 abbrev pub side_in : Inside → SideColumns
 side_in p = side_of p.paired.value p.unpaired.value p.rest.value p.paired_moved.value
@@ -41,57 +35,42 @@ side_in p = side_of p.paired.value p.unpaired.value p.rest.value p.paired_moved.
 -- One counter of a side counts more: what it counted, y, and the columns x.
 module _ (p : Inside) (x : Columns) {y now : Columns} {t : SideColumns} (view : side_in p ≡ t)
     (more : now ≡ columns_plus y x) where
-  counted : {counter : Columns} → y ≡ counter → now ≡ columns_plus counter x
-  counted was = more ∙ ap (λ z. columns_plus z x) was
-
   -- bases counted in the rest are counted as they were read, and not after trimming
   pub rest_more : y ≡ p.rest.value → side_of p.paired.value p.unpaired.value now
       p.paired_moved.value p.unpaired_moved.value ≡ with_before x t
   rest_more was =
-      ap (λ z. side_of p.paired.value p.unpaired.value z p.paired_moved.value
-      p.unpaired_moved.value) (counted was)
-      ∙ three_are (columns_swap p.rest.value x (columns_plus p.paired.value p.unpaired.value)) refl
-      refl
-      ∙ ap (with_before x) view
+      let before = columns_swap p.rest.value x (columns_plus p.paired.value p.unpaired.value) in cc
 
   module _ {survives : Bool} where
     -- bases counted as moved and paired are left of a read that survives with its mate
     pub paired_moved_more : y ≡ p.paired_moved.value → survives ≡ true →
         side_of p.paired.value p.unpaired.value p.rest.value now p.unpaired_moved.value
         ≡ with_after x survives t
-    paired_moved_more was is = grind (arith, common_steps, counted, three_are, columns_assoc)
+    paired_moved_more was is = grind (arith, common_steps, columns_assoc)
 
     -- bases counted as moved and unpaired are left of a read that survives alone
     pub unpaired_moved_more : y ≡ p.unpaired_moved.value → survives ≡ false →
         side_of p.paired.value p.unpaired.value p.rest.value p.paired_moved.value now
         ≡ with_after x survives t
-    unpaired_moved_more was is = grind (arith, common_steps, counted, three_are, columns_assoc)
+    unpaired_moved_more was is = grind (arith, common_steps, columns_assoc)
 
     -- bases counted as paired are counted both as they were read and as left with a mate
     pub paired_more : y ≡ p.paired.value → survives ≡ true →
         side_of now p.unpaired.value p.rest.value p.paired_moved.value p.unpaired_moved.value
         ≡ with_before x (with_after x survives t)
     paired_more was is =
-        ap (λ z. side_of z p.unpaired.value p.rest.value p.paired_moved.value
-        p.unpaired_moved.value) (counted was)
-        ∙ three_are
-        (ap (columns_plus p.rest.value) (columns_swap p.paired.value x p.unpaired.value)
-        ∙ sym (columns_assoc p.rest.value (columns_plus p.paired.value p.unpaired.value) x))
-        (columns_swap p.paired.value x p.paired_moved.value) refl
-        ∙ ap₂ (λ b s. with_before x (with_after x b s)) (sym is) view
+        let both = columns_swap p.paired.value x p.unpaired.value in
+        let before = columns_assoc p.rest.value (columns_plus p.paired.value p.unpaired.value) x in
+        let paired = columns_swap p.paired.value x p.paired_moved.value in grind (arith, common_steps)
 
     -- bases counted as unpaired are counted both as they were read and as left alone
     pub unpaired_more : y ≡ p.unpaired.value → survives ≡ false →
         side_of p.paired.value now p.rest.value p.paired_moved.value p.unpaired_moved.value
         ≡ with_before x (with_after x survives t)
     unpaired_more was is =
-        ap (λ z. side_of p.paired.value z p.rest.value p.paired_moved.value
-        p.unpaired_moved.value) (counted was)
-        ∙ three_are
-        (ap (columns_plus p.rest.value) (sym (columns_assoc p.paired.value p.unpaired.value x))
-        ∙ sym (columns_assoc p.rest.value (columns_plus p.paired.value p.unpaired.value) x))
-        refl (columns_swap p.unpaired.value x p.unpaired_moved.value)
-        ∙ ap₂ (λ b s. with_before x (with_after x b s)) (sym is) view
+        let both = columns_assoc p.paired.value p.unpaired.value x in
+        let before = columns_assoc p.rest.value (columns_plus p.paired.value p.unpaired.value) x in
+        let unpaired = columns_swap p.unpaired.value x p.unpaired_moved.value in grind (arith, common_steps)
 
 -- columns of two counters, added in turn to none
 pub both_added : {none first both x y a b : Columns} → none ≡ no_columns →
@@ -104,19 +83,17 @@ pub side_of_both : (p u r v w p' u' r' v' w' : Columns) →
     side_of (columns_plus p p') (columns_plus u u') (columns_plus r r') (columns_plus v v')
     (columns_plus w w') ≡ side_columns_plus (side_of p u r v w) (side_of p' u' r' v' w')
 side_of_both p u r v w p' u' r' v' w' =
-    three_are
-    (ap (columns_plus (columns_plus r r')) (columns_four p p' u u')
-    ∙ columns_four r r' (columns_plus p u) (columns_plus p' u'))
-    (columns_four p p' v v')
-    (columns_four u u' w w')
+    let both = columns_four p p' u u' in
+    let before = columns_four r r' (columns_plus p u) (columns_plus p' u') in
+    let paired = columns_four p p' v v' in
+    let unpaired = columns_four u u' w w' in cc
 
 -- a base that is counted in place is one of those before
 pub in_place : (x rest all : Columns) (mate_survives : Bool) (t : SideColumns) →
     columns_plus x rest ≡ all →
     with_before x (with_after x mate_survives (with_before rest t))
     ≡ with_before all (with_after x mate_survives t)
-in_place x rest all mate_survives t is =
-    grind (arith, common_steps, columns_swap, columns_assoc, three_are)
+in_place x rest all mate_survives t is = grind (arith, common_steps, columns_swap, columns_assoc)
 
 -- a read of which bases are kept
 survivor_columns : (read : Read) (k : Kept) (mate_survives : Bool) (t : SideColumns) →
@@ -154,29 +131,20 @@ cut_columns read k e seq qual e_is seq_is qual_is within same few scored start =
     let size : k.stop - k.start ≡ k.stop = omega arith in
     let seq_front = length-take-le k.stop seq (omega arith) in
     let qual_front = length-take-le k.stop qual (omega arith) in
-    let seq_rest = length-drop k.stop seq in
-    let qual_rest = length-drop k.stop qual in
+    let seq_behind = length-drop k.stop seq in
+    let qual_behind = length-drop k.stop qual in
     let all : list_all (is_scored e) qual ≡ true = rw (e_is, qual_is) scored in
     let read_is : part e seq qual ≡ whole read = cc in
-    let behind = columns_from k.stop e (take (length seq - k.stop) (drop k.stop seq))
-    (take (length qual - k.stop) (drop k.stop qual)) in
-    let left : Columns = columns_from 0 e (take k.stop seq) (take k.stop qual) in
-    ap (λ (n : ℕ). columns_plus (columns_from 0 e (take n (drop k.start seq)) (take n
-    (drop k.start qual))) behind) size
-    ∙ ap (λ (n : ℕ). columns_plus (columns_from 0 e (take k.stop (drop n seq)) (take k.stop
-    (drop n qual))) behind) start
-    ∙ ap (λ (xs : List ℕ). columns_plus left
-    (columns_from k.stop e xs (take (length qual - k.stop) (drop k.stop qual))))
-    (take_rest seq k.stop)
-    ∙ ap (λ (xs : List ℕ). columns_plus left (columns_from k.stop e (drop k.stop seq) xs))
-    (take_rest qual k.stop)
-    ∙ columns_joined 0 k.stop e (take k.stop seq) (take k.stop qual) (drop k.stop seq)
+    rw (
+      ap₂ (λ n m. take n (drop m seq)) size start,
+      ap₂ (λ n m. take n (drop m qual)) size start,
+      take_rest seq k.stop,
+      take_rest qual k.stop,
+    ) (columns_joined 0 k.stop e (take k.stop seq) (take k.stop qual) (drop k.stop seq)
     (drop k.stop qual) (omega arith) (omega arith) (omega arith) (omega arith) (omega arith)
     (all_taken (is_scored e) qual k.stop all) (all_dropped (is_scored e) qual k.stop all)
-    ∙ ap (λ (xs : List ℕ). columns_from 0 e xs (take k.stop qual ++ drop k.stop qual))
-    (take-append-drop k.stop seq)
-    ∙ ap (columns_from 0 e seq) (take-append-drop k.stop qual)
-    ∙ ap columns_of read_is
+    ∙ ap₂ (columns_from 0 e) (take-append-drop k.stop seq) (take-append-drop k.stop qual)
+    ∙ ap columns_of read_is)
 
 -- a read that lost nothing
 pub all_columns : (read : Read) (k : Kept) (e : Encoding) (seq qual : List ℕ) → e ≡ read.encoding →

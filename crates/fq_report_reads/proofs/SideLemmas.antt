@@ -1,5 +1,5 @@
 -- A read whose bases are counted in parts.
-use Rattle.std.proofs.Common.{◌≡◌, ℕ, ◌+◌, ◌-◌, ◌≤◌, Bool, true, not, ◌&&◌, cond, nat_le, Some, List, length, take, drop, count_by, sum, refl, ap, sym, ◌∙◌, arith}
+use Rattle.std.proofs.Common.{◌≡◌, ℕ, ◌+◌, ◌-◌, ◌≤◌, Bool, true, not, cond, nat_le, Some, List, length, take, drop, count_by, ap, sym, ◌∙◌, arith}
 use Rattle.std.specs.List.{sum_by, list_all}
 use Rattle.std.proofs.lemmas.List.{length-map, length-drop, length-take-le, drop-drop, take_rest}
 use Rattle.std.proofs.lemmas.List.Sums.{sum_by-take-drop, count_by-le-length}
@@ -7,19 +7,16 @@ use Rattle.fq_text.specs.declared.encoding.Encoding.{Encoding}
 use Rattle.fq_text.specs.Scores.{is_scored}
 use Rattle.fq_text.specs.Grammar.{Read}
 use Rattle.fq_trim.specs.declared.trimming.Kept.{Kept}
-use Rattle.fq_trim.specs.Keeping.{scores, places}
+use Rattle.fq_trim.specs.Keeping.{scores}
 use Rattle.fq_trim.specs.KeptPlaces.{places_of}
 use Rattle.fq_trim.specs.Sums.{capped_sum}
 use Rattle.fq_trim.proofs.PlaceLemmas.{length-places, length-scores, scores_at, scores_of_part, sum_small}
 use Rattle.fq_trim.proofs.KeptLemmas.{kept_survives}
 use Rattle.fq_report_reads.specs.declared.bases.BaseTally.{BaseTally}
-use Rattle.fq_report_reads.specs.declared.reads.ReadsTally.{ReadsTally}
 use Rattle.fq_report_reads.specs.declared.side.SideTally.{SideTally}
-use Rattle.fq_report_reads.specs.declared.steps.StepsTally.{StepsTally}
-use Rattle.fq_report_reads.specs.Rows.{counted, counted_if}
+use Rattle.fq_report_reads.specs.Rows.{counted}
 use Rattle.fq_report_reads.specs.Courses.{Part, part_at, whole, survives}
-use Rattle.fq_report_reads.specs.Letters.{is_gc, is_n}
-use Rattle.fq_report_reads.specs.SideColumns.{SideColumns, with_columns}
+use Rattle.fq_report_reads.specs.SideColumns.{with_columns}
 use Rattle.fq_report_reads.specs.SideTallies.{bases_of, bases_plus, with_part, with_left}
 use Rattle.fq_report_reads.proofs.CourseLemmas.{part, cut}
 use Rattle.fq_report_reads.proofs.LeftLaws.{at, not_empty}
@@ -54,11 +51,7 @@ module _ (e : Encoding) (seq qual : List ℕ) (a b : ℕ) (order : a ≤ b) (wit
       capped_sum (capped_sum (count_by test left_part.seq) (count_by test
       (part_before e seq qual a).seq)) (count_by test (part_from e seq qual b).seq)
       ≡ count_by test seq
-  letters test =
-      let parts = three (λ (x : ℕ). cond (test x) 1 0) seq a b (length seq) order refl in
-      let most = count_by-le-length test seq in
-      exact (count_by test (part_before e seq qual a).seq) (count_by test left_part.seq)
-      (count_by test (part_from e seq qual b).seq) (count_by test seq) parts (omega arith)
+  letters test = grind (arith, common_steps, three, count_by-le-length, exact)
 
   in_scores : (f : ℕ → ℕ) → sum_by f (scores e (part_before e seq qual a).qual) + sum_by f
       (scores e left_part.qual) + sum_by f (scores e (part_from e seq qual b).qual)
@@ -83,21 +76,17 @@ module _ (e : Encoding) (seq qual : List ℕ) (a b : ℕ) (order : a ≤ b) (wit
       bases_plus (bases_plus (bases_of left_part) (bases_of (part_before e seq qual a)))
       (bases_of (part_from e seq qual b)) ≡ bases_of (part e seq qual)
   counted_in_parts scored =
-      let small = sum_small e qual scored in
-      let front_len = length-take-le a seq (omega arith) in
-      let left_len = length-take-le (b - a) (drop a seq) (omega (arith, length-drop a seq)) in
-      let behind_len = length-take-le (length seq - b) (drop b seq)
-      (omega (arith, length-drop b seq)) in
-      let lens = exact (length (part_before e seq qual a).seq) (length left_part.seq)
-      (length (part_from e seq qual b).seq) (length seq) (omega arith) (omega arith) in
-      let low = over 20 in
-      let high = over 30 in
-      let sums = exact (sum (scores e (part_before e seq qual a).qual))
-      (sum (scores e left_part.qual)) (sum (scores e (part_from e seq qual b).qual))
-      (sum (scores e qual)) (in_scores (λ (x : ℕ). x)) (omega arith) in
-      let gc = letters is_gc in
-      let n = letters is_n in
-      cc
+      grind (
+        arith,
+        common_steps,
+        sum_small,
+        length-take-le,
+        length-drop,
+        exact,
+        over,
+        in_scores,
+        letters,
+      )
 
 -- the bases G or C of a read are among its bases, of which there are few
 pub few_bases : (p : Part) (b : BaseTally) → b ≡ bases_of p → length p.seq ≤ 1048576 →
@@ -115,8 +104,7 @@ kept_part read k e seq qual e_is seq_is qual_is within same =
 -- what is left of a read has as many bases as there are places from start up to stop
 pub kept_length : (k : Kept) (p : Part) → length (part_at (places_of (Some k)) p).seq ≡ k.stop -
     k.start
-kept_length k p = length-map (places k.start (k.stop - k.start)) (at p.seq)
-    ∙ length-places k.start (k.stop - k.start)
+kept_length k p = grind (arith, common_steps, length-map, at, length-places)
 
 -- the counts of what is kept of a read are those of so many bases
 pub kept_counts : (read : Read) (k : Kept) (b : BaseTally) →
@@ -132,8 +120,7 @@ kept_counts read k b is within few =
 -- a read of which places are kept survives
 pub kept_is_left : (read : Read) (k : Kept) →
     survives (part_at (places_of (Some k)) (whole read)) ≡ true
-kept_is_left read k = ap not (not_empty (at read.seq) (places_of (Some k))
-    ∙ kept_survives (places_of (Some k)) (Some k) k refl refl)
+kept_is_left read k = grind (arith, common_steps, not_empty, at, kept_survives)
 
 -- a read of which bases are kept
 pub survivor : (read : Read) (k : Kept) (mate_survives : Bool) (t : SideTally) →
@@ -160,41 +147,11 @@ survivor read k mate_survives t =
     let is = kept_is_left read k in
     let removed : length read.seq - k.start - length left.seq ≡ length read.seq - k.stop =
     omega arith in
-    let made : Bool → ℕ → SideTally = λ b behind. record {
-      before = with_part (whole read) t.before;
-      paired = cond (b && mate_survives) (with_part left t.paired) t.paired;
-      unpaired = cond (b && not mate_survives) (with_part left t.unpaired) t.unpaired;
-      front = cond b (capped_sum t.front k.start) t.front;
-      behind = cond b (capped_sum t.behind behind) t.behind;
-      removed_front = counted_if b k.start t.removed_front;
-      removed_behind = counted_if b behind t.removed_behind;
-      positions = with_columns read left mate_survives t.positions;
-      steps = t.steps;
-    } in
-    ap (λ (b : Bool). made b (length read.seq - k.start - length left.seq)) is
-    ∙ ap (made true) removed
+    simp (is, removed)
 
--- the counts of a side, given its parts
-abbrev pub made_of : ReadsTally → ReadsTally → ReadsTally → ℕ → ℕ → List ℕ → List ℕ → SideColumns →
-    StepsTally → SideTally
-made_of before paired unpaired front behind removed_front removed_behind positions steps = record {
-  before = before;
-  paired = paired;
-  unpaired = unpaired;
-  front = front;
-  behind = behind;
-  removed_front = removed_front;
-  removed_behind = removed_behind;
-  positions = positions;
-  steps = steps;
-}
-
--- sides of the same parts
-pub parts_are : {before before' paired paired' unpaired unpaired' : ReadsTally}
-    {front front' behind behind' : ℕ} {f f' b b' : List ℕ} {p p' : SideColumns}
-    {steps steps' : StepsTally} →
-    before ≡ before' → paired ≡ paired' → unpaired ≡ unpaired' → front ≡ front' → behind ≡ behind' →
-    f ≡ f' → b ≡ b' → p ≡ p' → steps ≡ steps' →
-    made_of before paired unpaired front behind f b p steps
-    ≡ made_of before' paired' unpaired' front' behind' f' b' p' steps'
-parts_are a b c d e f g h i = cc
+-- sides are the same if their parts are
+pub parts_are : (s t : SideTally) → s.before ≡ t.before → s.paired ≡ t.paired →
+    s.unpaired ≡ t.unpaired → s.front ≡ t.front → s.behind ≡ t.behind →
+    s.removed_front ≡ t.removed_front → s.removed_behind ≡ t.removed_behind →
+    s.positions ≡ t.positions → s.steps ≡ t.steps → s ≡ t
+parts_are s t a b c d e f g h i = grind (arith, common_steps)

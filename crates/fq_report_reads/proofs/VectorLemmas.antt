@@ -1,5 +1,5 @@
 -- Bytes that are counted in a vector.
-use Rattle.std.proofs.Common.{◌≡◌, ◌≤◌, ◌+◌, ◌-◌, ◌*◌, ◌%◌, ◌^◌, Fits, w8, ℕ, zero, suc, ◌<◌, Bool, true, false, ◌||◌, eqb, cond, count_by, sum, List, [], ◌∷◌, ◌++◌, length, get_or, map, take, drop, replicate, refl, sym, ap, ap₂, ◌∙◌, arith}
+use Rattle.std.proofs.Common.{◌≡◌, ◌≤◌, ◌+◌, ◌-◌, ◌*◌, ◌%◌, ◌^◌, Fits, w8, ℕ, zero, suc, ◌<◌, Bool, true, false, ◌||◌, eqb, cond, count_by, sum, List, [], ◌∷◌, ◌++◌, length, map, take, drop, replicate, refl, sym, ap, ap₂, ◌∙◌, arith}
 use Rattle.std.specs.List.{sum_by}
 use Rattle.std.proofs.Math.Seq.{take-add}
 use Rattle.std.proofs.lemmas.List.{drop-drop, length-map}
@@ -13,6 +13,8 @@ use lib.Lanes.{zip2, sel_l, mask_l, top, sum_l, Each1}
 use Rattle.fq_text.proofs.VectorLemmas.{flag, mask_of}
 use Rattle.fq_report_reads.specs.Vectors.{Holds}
 use Rattle.fq_report_reads.specs.Counting.{one_if, AtMost}
+use Rattle.fq_report_reads.proofs.PositionLemmas.{one_if_small}
+use Rattle.fq_report_reads.proofs.FewLemmas.{mapped_at_most}
 use Rattle.std.proofs.lemmas.Grind.{common_steps}
 
 -- how many bytes pass, by the bits of their flags
@@ -22,10 +24,7 @@ pub flags_counted : (p : ℕ → Bool) (v : List ℕ) {z : List ℕ} → length 
 flags_counted p v short same = ap ones (mask_of p v short same) ∙ ones-mask_l p v
 
 flag_or : (a b : Bool) → bit_or (flag a) (flag b) ≡ flag (a || b)
-flag_or true true = refl
-flag_or true false = refl
-flag_or false true = refl
-flag_or false false = refl
+flag_or a b = grind (arith, common_steps)
 
 -- one or the other
 either_flags : (p q : ℕ → Bool) (v : List ℕ) →
@@ -42,8 +41,7 @@ either p q v left right = ap₂ (zip2 bit_or) left right ∙ either_flags p q v
 -- the sum of a vector
 pub vector_summed : (v : List ℕ) → sum_l v ≡ sum v
 vector_summed [] = refl
-vector_summed (x ∷ xs) = ap (λ rest. x + rest) (vector_summed xs)
-    ∙ sym (sum_by-cons (λ (y : ℕ). y) x xs)
+vector_summed (x ∷ xs) = grind (arith, common_steps, sum_by-cons, vector_summed xs)
 
 -- What a vector holds, with zeros beside it.
 
@@ -135,33 +133,20 @@ either_case letter v low high long fits =
 
 -- Ones for the bytes that pass.
 flag_top : (b : Bool) → top 7 (flag b) ≡ b
-flag_top true = refl
-flag_top false = refl
+flag_top b = grind (arith, common_steps)
 
 ones_for : (p : ℕ → Bool) (v : List ℕ) (n : ℕ) → length v ≡ n →
     sel_l (map (top 7) (map (λ x. flag (p x)) v)) (replicate n 1) (replicate n 0) ≡ map (one_if p) v
 ones_for p [] n long = refl
 ones_for p (x ∷ xs) zero long = absurd (omega arith)
-ones_for p (x ∷ xs) (suc n) long = ap₂ (λ b ys. cond b 1 0 ∷ ys) (flag_top (p x))
-    (ones_for p xs n (omega arith))
+ones_for p (x ∷ xs) (suc n) long = grind (arith, common_steps, flag_top, ones_for p xs n)
 
 -- selecting 1 or 0 by flags gives 1 for each byte that passes, and 0 for the others
 pub ones_chosen : (p : ℕ → Bool) (v : List ℕ) (n : ℕ) {z : List ℕ} → length v ≡ n →
     z ≡ map (λ x. flag (p x)) v → sel_l (map (top 7) z) (replicate n 1) (replicate n 0) ≡ map
     (one_if p) v
-ones_chosen p v n long is = ap (λ z. sel_l (map (top 7) z) (replicate n 1) (replicate n 0)) is
-    ∙ ones_for p v n long
-
-one_small : (b : Bool) → cond b 1 0 ≤ 1
-one_small true = omega arith
-one_small false = omega arith
-
-ones_at_most : (p : ℕ → Bool) (v : List ℕ) → AtMost 1 (map (one_if p) v)
-ones_at_most p [] k = let least : 0 ≤ 1 = omega arith in least
-ones_at_most p (x ∷ xs) zero = one_small (p x)
-ones_at_most p (x ∷ xs) (suc k) = ones_at_most p xs k
+ones_chosen p v n long is = grind (arith, common_steps, sel_l, top, ones_for)
 
 -- 1 for each byte that passes and 0 for the others is at most 1 in each lane
 pub ones_are_few : (p : ℕ → Bool) (v ones : List ℕ) → ones ≡ map (one_if p) v → AtMost 1 ones
-ones_are_few p v ones is k = let small = ones_at_most p v k in let same =
-    ap (λ xs. get_or xs k 0) is in omega arith
+ones_are_few p v ones is = rw is (mapped_at_most (one_if p) 1 (one_if_small p) v)

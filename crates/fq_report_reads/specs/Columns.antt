@@ -1,7 +1,7 @@
 -- What is counted of bases by their positions in reads: eight columns, each of which has a row for
 -- each position up to 10,000, as far as bases were counted, and one more for all positions above.
 -- What names them one by one is here.
-use Rattle.std.specs.Prelude.{ℕ, ◌+◌, ◌*◌, ◌≤◌, ◌<◌, nat_le, List, [], ◌∷◌, length, take, map, replicate}
+use Rattle.std.specs.Prelude.{ℕ, ◌+◌, ◌*◌, ◌≤◌, ◌<◌, nat_le, List, [], ◌∷◌, take, map, replicate}
 use Rattle.fq_text.specs.declared.encoding.Encoding.{Encoding}
 use Rattle.fq_trim.specs.Keeping.{scores}
 use Rattle.fq_report_reads.specs.declared.columns.Columns.{Columns}
@@ -74,17 +74,6 @@ pub record AreFew (rows len reads : ℕ) (x : Columns) : Type 0 where
   pub g : IsFew rows len reads x.g
   pub t : IsFew rows len reads x.t
   pub n : IsFew rows len reads x.n
-
--- All columns were cleared: of the rows that each had, none counts anything now.
-pub record AreCleared (x y : Columns) : Type 0 where
-  pub bases : (rows : ℕ) → rows ≤ length x.bases → IsFew rows 0 0 y.bases
-  pub score_sum : (rows : ℕ) → rows ≤ length x.score_sum → IsFew rows 0 0 y.score_sum
-  pub q30_bases : (rows : ℕ) → rows ≤ length x.q30_bases → IsFew rows 0 0 y.q30_bases
-  pub a : (rows : ℕ) → rows ≤ length x.a → IsFew rows 0 0 y.a
-  pub c : (rows : ℕ) → rows ≤ length x.c → IsFew rows 0 0 y.c
-  pub g : (rows : ℕ) → rows ≤ length x.g → IsFew rows 0 0 y.g
-  pub t : (rows : ℕ) → rows ≤ length x.t → IsFew rows 0 0 y.t
-  pub n : (rows : ℕ) → rows ≤ length x.n → IsFew rows 0 0 y.n
 
 -- all columns, one after the other
 abbrev pub columns_tables : Columns → List (List ℕ)

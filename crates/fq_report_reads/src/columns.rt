@@ -1,11 +1,9 @@
 //! Counts of bases by their positions in reads.
 
-ghost use Rattle.std.specs.Prelude.{◌≡◌, ◌+◌, ◌≤◌, true, length, IfOk};
-ghost use Rattle.std.specs.List.{list_all};
-ghost use Rattle.fq_text.specs.Grammar.{limit};
-ghost use Rattle.fq_text.specs.Scores.{is_scored};
+ghost use Rattle.std.specs.Prelude.{◌≡◌, ◌+◌, ◌≤◌, IfOk};
 ghost use Rattle.fq_report_reads.specs.Counting.{last_position};
 ghost use Rattle.fq_report_reads.specs.Columns.{no_columns, columns_from, columns_plus, empty_rows, one_in};
+ghost use Rattle.fq_report_reads.specs.Parts.{AreBases};
 
 use crate::rows::Rows;
 use fq_text::{Encoding, OutOfMemory};
@@ -44,31 +42,21 @@ impl Columns {
     pub(crate) fn new(alloc: Global) -> Result<Columns, OutOfMemory>
         ensures { IfOk result (λ columns. columns ≡ no_columns) }
     {
-        let bases = Rows::new(alloc)?;
-        let score_sum = Rows::new(alloc)?;
-        let q30_bases = Rows::new(alloc)?;
-        let a = Rows::new(alloc)?;
-        let c = Rows::new(alloc)?;
-        let g = Rows::new(alloc)?;
-        let t = Rows::new(alloc)?;
-        let n = Rows::new(alloc)?;
         Ok(Columns {
-            bases,
-            score_sum,
-            q30_bases,
-            a,
-            c,
-            g,
-            t,
-            n,
+            bases: Rows::new(alloc)?,
+            score_sum: Rows::new(alloc)?,
+            q30_bases: Rows::new(alloc)?,
+            a: Rows::new(alloc)?,
+            c: Rows::new(alloc)?,
+            g: Rows::new(alloc)?,
+            t: Rows::new(alloc)?,
+            n: Rows::new(alloc)?,
         })
     }
 
     // Counts bases. The first is at index `at` of its read.
     pub(crate) fn count(&mut self, encoding: Encoding, seq: &[u8], qual: &[u8], at: usize)
-        requires few { at + length qual.now ≤ limit }
-        requires scored { list_all (is_scored encoding) qual.now ≡ true }
-        requires same { length qual.now ≡ length seq.now }
+        requires { AreBases encoding seq.now qual.now at }
         ensures { self.new ≡ columns_plus self.old (columns_from at encoding seq.now qual.now) }
     {
         let rows = at.min(LAST_POSITION + 1);

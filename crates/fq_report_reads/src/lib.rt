@@ -18,9 +18,7 @@
 //!   ├ SidePositions       of bases by their position
 //!   │ └ Positions         five counters, so that most bases are counted once
 //!   │   ├ Columns         the totals: a `Rows` for each column
-//!   │   └ NarrowColumns   at most 254 reads, added by vectors
-//!   │     ├ ByteRows      a column of 8 bits
-//!   │     └ WordRows      the sum of scores, of 16 bits
+//!   │   └ NarrowColumns   at most 254 reads, in 8 or 16 bits each, added by vectors
 //!   └ StepsTally          of steps
 //! ```
 #![tactic(auto)]

@@ -5,10 +5,11 @@ ghost use Rattle.std.specs.List.{list_all};
 ghost use Rattle.fq_text.specs.Scores.{is_scored};
 ghost use Rattle.fq_text.specs.declared.encoding.Encoding.TheVariants.{Solexa};
 ghost use Rattle.fq_report_reads.specs.Counting.{last_position, is_lane, lane_score, most_reads, few_rows};
-ghost use Rattle.fq_report_reads.specs.Columns.{columns_from, columns_plus, first_rows, lanes_at, AreCleared, AreFew};
+ghost use Rattle.fq_report_reads.specs.Columns.{columns_from, columns_plus, first_rows, lanes_at, AreFew};
 
 use crate::columns::Columns;
-use crate::narrow_rows::{ByteRows, WordRows};
+use crate::narrow_rows::{add_bytes, add_words, clear};
+use crate::table::Table;
 use crate::vectors::{WIDTH, all_of, last_of, less, ones_from, ones_of};
 use fq_text::{Encoding, OutOfMemory};
 use std::alloc::Global;
@@ -18,14 +19,14 @@ use std::simd::prelude::*;
 // Counts of the bases of at most 254 reads, at the positions up to 10,000.
 #[derive(Drop)]
 pub(crate) struct NarrowColumns {
-    bases: ByteRows,
-    score_sum: WordRows,
-    q30_bases: ByteRows,
-    a: ByteRows,
-    c: ByteRows,
-    g: ByteRows,
-    t: ByteRows,
-    n: ByteRows,
+    bases: Vec<u8>,
+    score_sum: Vec<u16>,
+    q30_bases: Vec<u8>,
+    a: Vec<u8>,
+    c: Vec<u8>,
+    g: Vec<u8>,
+    t: Vec<u8>,
+    n: Vec<u8>,
 }
 
 impl Model for NarrowColumns {
@@ -34,39 +35,32 @@ impl Model for NarrowColumns {
     ghost Value = { Columns };
 
     ghost view = { λ f. record {
-      bases = f.bases;
-      score_sum = f.score_sum;
-      q30_bases = f.q30_bases;
-      a = f.a;
-      c = f.c;
-      g = f.g;
-      t = f.t;
-      n = f.n;
+      bases = f.bases.items;
+      score_sum = f.score_sum.items;
+      q30_bases = f.q30_bases.items;
+      a = f.a.items;
+      c = f.c.items;
+      g = f.g.items;
+      t = f.t.items;
+      n = f.n.items;
     } };
 }
 
 impl NarrowColumns {
     // No bases, and so many rows in each column.
+    #[tactic(auto, using(std::proofs::lemmas::Grind::common_steps, crate::proofs::FewLemmas::row_none))]
     pub(crate) fn new(alloc: Global, rows: usize) -> Result<NarrowColumns, OutOfMemory>
         ensures { IfOk result (λ made. AreFew rows 0 0 made) }
     {
-        let bases = ByteRows::new(alloc, rows)?;
-        let score_sum = WordRows::new(alloc, rows)?;
-        let q30_bases = ByteRows::new(alloc, rows)?;
-        let a = ByteRows::new(alloc, rows)?;
-        let c = ByteRows::new(alloc, rows)?;
-        let g = ByteRows::new(alloc, rows)?;
-        let t = ByteRows::new(alloc, rows)?;
-        let n = ByteRows::new(alloc, rows)?;
         Ok(NarrowColumns {
-            bases,
-            score_sum,
-            q30_bases,
-            a,
-            c,
-            g,
-            t,
-            n,
+            bases: vec![in alloc; 0; rows]?,
+            score_sum: vec![in alloc; 0; rows]?,
+            q30_bases: vec![in alloc; 0; rows]?,
+            a: vec![in alloc; 0; rows]?,
+            c: vec![in alloc; 0; rows]?,
+            g: vec![in alloc; 0; rows]?,
+            t: vec![in alloc; 0; rows]?,
+            n: vec![in alloc; 0; rows]?,
         })
     }
 
@@ -122,14 +116,14 @@ impl NarrowColumns {
         ensures { self.new ≡ columns_plus self.old (lanes_at at encoding bases bytes) }
     {
         let scores = scores_in(encoding, bytes);
-        self.bases.add(at, ones_from(bytes, 1));
-        self.score_sum.add(at, scores);
-        self.q30_bases.add(at, ones_from(scores, 30));
-        self.a.add(at, ones_of(bases, b'a'));
-        self.c.add(at, ones_of(bases, b'c'));
-        self.g.add(at, ones_of(bases, b'g'));
-        self.t.add(at, ones_of(bases, b't'));
-        self.n.add(at, ones_of(bases, b'n'));
+        add_bytes(&mut self.bases, at, ones_from(bytes, 1));
+        add_words(&mut self.score_sum, at, scores);
+        add_bytes(&mut self.q30_bases, at, ones_from(scores, 30));
+        add_bytes(&mut self.a, at, ones_of(bases, b'a'));
+        add_bytes(&mut self.c, at, ones_of(bases, b'c'));
+        add_bytes(&mut self.g, at, ones_of(bases, b'g'));
+        add_bytes(&mut self.t, at, ones_of(bases, b't'));
+        add_bytes(&mut self.n, at, ones_of(bases, b'n'));
     }
 
     // Adds the first rows to columns.
@@ -138,38 +132,34 @@ impl NarrowColumns {
         requires near { count ≤ last_position }
         ensures { columns.new ≡ columns_plus columns.old (first_rows count self.now) }
     {
-        self.bases.add_to(&mut columns.bases, count);
-        self.score_sum.add_to(&mut columns.score_sum, count);
-        self.q30_bases.add_to(&mut columns.q30_bases, count);
-        self.a.add_to(&mut columns.a, count);
-        self.c.add_to(&mut columns.c, count);
-        self.g.add_to(&mut columns.g, count);
-        self.t.add_to(&mut columns.t, count);
-        self.n.add_to(&mut columns.n, count);
+        columns.bases.add_table(Table::Bytes(&self.bases[..count]));
+        columns
+            .score_sum
+            .add_table(Table::Words(&self.score_sum[..count]));
+        columns
+            .q30_bases
+            .add_table(Table::Bytes(&self.q30_bases[..count]));
+        columns.a.add_table(Table::Bytes(&self.a[..count]));
+        columns.c.add_table(Table::Bytes(&self.c[..count]));
+        columns.g.add_table(Table::Bytes(&self.g[..count]));
+        columns.t.add_table(Table::Bytes(&self.t[..count]));
+        columns.n.add_table(Table::Bytes(&self.n[..count]));
     }
 
     // Sets all rows to 0. Those from `count` on are 0 already.
+    #[tactic(auto, using(std::proofs::lemmas::Grind::common_steps, crate::proofs::FewLemmas::row_cleared))]
     pub(crate) fn clear(&mut self, count: usize)
         requires few { AreFew count count most_reads self.old }
         ensures { (rows : ℕ) → AreFew rows count most_reads self.old → AreFew rows 0 0 self.new }
     {
-        self.clear_each(count);
-    }
-
-    // Sets all rows of each column to 0. Its contract has the eight columns in one fact, from which
-    // the proof of `clear` goes on.
-    fn clear_each(&mut self, count: usize)
-        requires few { AreFew count count most_reads self.old }
-        ensures { AreCleared self.old self.new }
-    {
-        self.bases.clear(count);
-        self.score_sum.clear(count);
-        self.q30_bases.clear(count);
-        self.a.clear(count);
-        self.c.clear(count);
-        self.g.clear(count);
-        self.t.clear(count);
-        self.n.clear(count);
+        clear(&mut self.bases, 0, count);
+        clear(&mut self.score_sum, 0, count);
+        clear(&mut self.q30_bases, 0, count);
+        clear(&mut self.a, 0, count);
+        clear(&mut self.c, 0, count);
+        clear(&mut self.g, 0, count);
+        clear(&mut self.t, 0, count);
+        clear(&mut self.n, 0, count);
     }
 }
 
@@ -186,6 +176,7 @@ fn scores_in(encoding: Encoding, bytes: u8x32) -> u8x32
 }
 
 // The scores of quality bytes in Solexa's encoding, byte by byte.
+#[tactic(auto, using(std::proofs::lemmas::Grind::common_steps, crate::proofs::LaneLemmas::converted_next))]
 #[inline(never)]
 fn solexa_scores(bytes: u8x32) -> u8x32
     requires { list_all (is_lane Solexa) bytes ≡ true }

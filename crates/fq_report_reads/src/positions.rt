@@ -1,11 +1,9 @@
 //! Counts of bases by their positions in reads, as they are counted.
 
-ghost use Rattle.std.specs.Prelude.{◌≡◌, ◌+◌, ◌≤◌, ℕ, true, length, IfOk};
-ghost use Rattle.std.specs.List.{list_all};
-ghost use Rattle.fq_text.specs.Grammar.{limit};
-ghost use Rattle.fq_text.specs.Scores.{is_scored};
+ghost use Rattle.std.specs.Prelude.{◌≡◌, ◌≤◌, ℕ, IfOk};
 ghost use Rattle.fq_report_reads.specs.Counting.{last_position, most_reads};
 ghost use Rattle.fq_report_reads.specs.Columns.{no_columns, columns_from, columns_plus, first_rows, AreFew};
+ghost use Rattle.fq_report_reads.specs.Parts.{AreBases};
 
 use crate::columns::{Columns, LAST_POSITION};
 use crate::narrow_columns::NarrowColumns;
@@ -69,9 +67,7 @@ impl Positions {
     // Counts bases. The first is at index `at` of its read. `narrow` gets more rows if memory is
     // given.
     pub(crate) fn add(&mut self, encoding: Encoding, seq: &[u8], qual: &[u8], at: usize)
-        requires few { at + length qual.now ≤ limit }
-        requires scored { list_all (is_scored encoding) qual.now ≡ true }
-        requires same { length qual.now ≡ length seq.now }
+        requires { AreBases encoding seq.now qual.now at }
         ensures { self.new ≡ columns_plus self.old (columns_from at encoding seq.now qual.now) }
     {
         let end = at + seq.len();
@@ -83,9 +79,7 @@ impl Positions {
 
     // Counts bases, in `narrow` if it reaches so far. Takes no memory.
     fn count(&mut self, encoding: Encoding, seq: &[u8], qual: &[u8], at: usize)
-        requires few { at + length qual.now ≤ limit }
-        requires scored { list_all (is_scored encoding) qual.now ≡ true }
-        requires same { length qual.now ≡ length seq.now }
+        requires { AreBases encoding seq.now qual.now at }
         ensures { self.new ≡ columns_plus self.old (columns_from at encoding seq.now qual.now) }
     {
         let end = at + seq.len();
@@ -104,6 +98,7 @@ impl Positions {
     }
 
     // Gives `narrow` a row for each position up to this one, if it may have it and memory is given.
+    #[tactic(auto, using(std::proofs::lemmas::Grind::common_steps, crate::proofs::ColumnLemmas::columns_none))]
     #[inline(never)]
     fn reach(&mut self, end: usize)
         ensures { self.new ≡ self.old }

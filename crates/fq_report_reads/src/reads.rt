@@ -37,17 +37,14 @@ impl ReadsTally {
     pub(crate) fn new(alloc: Global) -> Result<ReadsTally, OutOfMemory>
         ensures { IfOk result (λ t. t ≡ no_reads) }
     {
-        let lengths = Rows::new(alloc)?;
-        let mean_scores = Rows::new(alloc)?;
-        let gc_percents = Rows::new(alloc)?;
         Ok(ReadsTally {
             reads: 0,
             bases: BaseTally::zero(),
             shortest: u64::MAX,
             longest: 0,
-            lengths,
-            mean_scores,
-            gc_percents,
+            lengths: Rows::new(alloc)?,
+            mean_scores: Rows::new(alloc)?,
+            gc_percents: Rows::new(alloc)?,
         })
     }
 

@@ -64,6 +64,7 @@ impl Rows {
     }
 
     // Grows to at least this many rows. New rows count 0.
+    #[tactic(auto, using(std::proofs::lemmas::Grind::common_steps, std::proofs::lemmas::List::take_all, crate::proofs::PositionLemmas::grown_behind, crate::proofs::PositionLemmas::grown_within))]
     pub(crate) fn grow(&mut self, rows: usize)
         requires { rows ≤ most_rows }
         ensures { self.new ≡ rows_plus self.old (replicate rows 0) }
@@ -90,6 +91,7 @@ impl Rows {
     }
 
     // Adds the counts of a table.
+    #[tactic(auto, using(std::proofs::lemmas::Grind::common_steps, crate::proofs::RowLemmas::plus_none, crate::proofs::RowLemmas::grown_long, crate::proofs::RowLemmas::grown_next, crate::proofs::RowLemmas::grown_plus, std::proofs::lemmas::List::get_or_past, std::proofs::lemmas::Bool::cases_lt))]
     pub(crate) fn add_table(&mut self, table: Table<'_>)
         requires { length (counts_of table) ≤ most_rows }
         ensures { self.new ≡ rows_plus self.old (counts_of table.entry) }

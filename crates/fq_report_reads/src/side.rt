@@ -46,23 +46,16 @@ impl SideTally {
     pub(crate) fn new(alloc: Global) -> Result<SideTally, OutOfMemory>
         ensures { IfOk result (λ t. t ≡ no_side) }
     {
-        let before = ReadsTally::new(alloc)?;
-        let paired = ReadsTally::new(alloc)?;
-        let unpaired = ReadsTally::new(alloc)?;
-        let removed_front = Rows::new(alloc)?;
-        let removed_behind = Rows::new(alloc)?;
-        let positions = SidePositions::new(alloc)?;
-        let steps = StepsTally::new(alloc)?;
         Ok(SideTally {
-            before,
-            paired,
-            unpaired,
+            before: ReadsTally::new(alloc)?,
+            paired: ReadsTally::new(alloc)?,
+            unpaired: ReadsTally::new(alloc)?,
             front: 0,
             behind: 0,
-            removed_front,
-            removed_behind,
-            positions,
-            steps,
+            removed_front: Rows::new(alloc)?,
+            removed_behind: Rows::new(alloc)?,
+            positions: SidePositions::new(alloc)?,
+            steps: StepsTally::new(alloc)?,
         })
     }
 
@@ -79,8 +72,7 @@ impl SideTally {
             ≡ with_read read.now (course (alone steps.now) read.now) mate_survives self.old }
         ensures lawful { IsLawful read.now }
     {
-        // By this call the proof learns that the read is valid.
-        let _ = read.title();
+        let _ = read.title(); // The proof learns that the read is valid.
         self.steps.add(trimmed);
         match trimmed.kept() {
             Some(kept) => self.add_survivor(read, kept, mate_survives),
@@ -92,8 +84,7 @@ impl SideTally {
     fn add_dropped(&mut self, read: &ReadView<'_>)
         ensures { self.new ≡ with_left read.now (part_at [] (whole read.now)) 0 false self.old }
     {
-        // By this call the proof learns that the read is valid.
-        let _ = read.title();
+        let _ = read.title(); // The proof learns that the read is valid.
         let len = read.seq().len();
         let bases = BaseTally::of_rare(read.encoding(), read.seq(), read.qual(), 0, len);
         self.before.add(bases, len);
@@ -106,8 +97,7 @@ impl SideTally {
         ensures { self.new ≡ with_left read.now
             (part_at (places_of (Some kept)) (whole read.now)) kept.start mate_survives self.old }
     {
-        // By this call the proof learns that the read is valid.
-        let _ = read.title();
+        let _ = read.title(); // The proof learns that the read is valid.
         let seq = read.seq();
         let len = kept.stop - kept.start;
         let left = kept_bases(read, kept);
@@ -147,8 +137,7 @@ impl SideTally {
 fn qual_of<'a>(read: &'a ReadView<'_>) -> &'a [u8]
     ensures { result.now ≡ read.now.qual }
 {
-    // By this call the proof learns that the read is valid.
-    let _ = read.title();
+    let _ = read.title(); // The proof learns that the read is valid.
     &read.qual()[..read.seq().len()]
 }
 
@@ -158,8 +147,7 @@ fn kept_bases(read: &ReadView<'_>, kept: Kept) -> BaseTally
     requires { kept.stop ≤ length read.now.seq }
     ensures { result ≡ bases_of (part_at (places_of (Some kept)) (whole read.now)) }
 {
-    // By this call the proof learns that the read is valid.
-    let _ = read.title();
+    let _ = read.title(); // The proof learns that the read is valid.
     BaseTally::of(
         read.encoding(),
         read.seq(),
@@ -176,8 +164,7 @@ fn whole_bases(read: &ReadView<'_>, kept: Kept, left: BaseTally) -> BaseTally
     requires left { left ≡ bases_of (part_at (places_of (Some kept)) (whole read.now)) }
     ensures { result ≡ bases_of (whole read.now) }
 {
-    // By this call the proof learns that the read is valid.
-    let _ = read.title();
+    let _ = read.title(); // The proof learns that the read is valid.
     let encoding = read.encoding();
     let (seq, qual) = (read.seq(), qual_of(read));
     let front = if kept.start == 0 {

@@ -51,21 +51,17 @@ impl SidePositions {
     pub(crate) fn new(alloc: Global) -> Result<SidePositions, OutOfMemory>
         ensures { IfOk result (λ p. p ≡ no_side_columns) }
     {
-        let paired = no_positions(alloc)?;
-        let unpaired = no_positions(alloc)?;
-        let rest = no_positions(alloc)?;
-        let paired_moved = no_positions(alloc)?;
-        let unpaired_moved = no_positions(alloc)?;
         Ok(SidePositions {
-            paired,
-            unpaired,
-            rest,
-            paired_moved,
-            unpaired_moved,
+            paired: no_positions(alloc)?,
+            unpaired: no_positions(alloc)?,
+            rest: no_positions(alloc)?,
+            paired_moved: no_positions(alloc)?,
+            unpaired_moved: no_positions(alloc)?,
         })
     }
 
     /// The bases of all reads, as they were read. Memory may be refused.
+    #[tactic(auto, using(std::proofs::lemmas::Grind::common_steps, crate::proofs::ColumnLemmas::columns_assoc))]
     pub fn before(&self, alloc: Global) -> Result<Columns, OutOfMemory>
         ensures { IfOk result (λ columns. columns ≡ self.now.before) }
     {
@@ -77,6 +73,7 @@ impl SidePositions {
     }
 
     /// What is left of the reads that survive with their mate. Memory may be refused.
+    #[tactic(auto, using(std::proofs::lemmas::Grind::common_steps, crate::proofs::SideColumnLemmas::both_added))]
     pub fn paired(&self, alloc: Global) -> Result<Columns, OutOfMemory>
         ensures { IfOk result (λ columns. columns ≡ self.now.paired) }
     {
@@ -87,6 +84,7 @@ impl SidePositions {
     }
 
     /// What is left of the reads that survive alone. Memory may be refused.
+    #[tactic(auto, using(std::proofs::lemmas::Grind::common_steps, crate::proofs::SideColumnLemmas::both_added))]
     pub fn unpaired(&self, alloc: Global) -> Result<Columns, OutOfMemory>
         ensures { IfOk result (λ columns. columns ≡ self.now.unpaired) }
     {
@@ -100,8 +98,7 @@ impl SidePositions {
     pub(crate) fn add_dropped(&mut self, read: &ReadView<'_>)
         ensures { self.new ≡ with_columns read.now (part_at [] (whole read.now)) false self.old }
     {
-        // By this call the proof learns that the read is valid.
-        let _ = read.title();
+        let _ = read.title(); // The proof learns that the read is valid.
         self.add_rest(read.encoding(), read.seq(), read.qual(), 0);
     }
 
@@ -111,8 +108,7 @@ impl SidePositions {
         ensures { self.new ≡ with_columns read.now
             (part_at (places_of (Some kept)) (whole read.now)) mate_survives self.old }
     {
-        // By this call the proof learns that the read is valid.
-        let _ = read.title();
+        let _ = read.title(); // The proof learns that the read is valid.
         let encoding = read.encoding();
         let (start, stop) = (kept.start, kept.stop);
         let (seq, qual) = (read.seq(), read.qual());
@@ -163,6 +159,7 @@ impl SidePositions {
     }
 
     // Adds the counts of other reads.
+    #[tactic(auto, using(std::proofs::lemmas::Grind::common_steps, crate::proofs::SideColumnLemmas::side_of_both))]
     pub(crate) fn add_all(&mut self, other: &SidePositions)
         ensures { self.new ≡ side_columns_plus self.old other.now }
     {

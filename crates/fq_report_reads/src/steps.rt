@@ -25,9 +25,10 @@ impl StepsTally {
     pub(crate) fn new(alloc: Global) -> Result<StepsTally, OutOfMemory>
         ensures { IfOk result (λ t. t ≡ no_steps) }
     {
-        let shortened = Rows::new(alloc)?;
-        let dropped = Rows::new(alloc)?;
-        Ok(StepsTally { shortened, dropped })
+        Ok(StepsTally {
+            shortened: Rows::new(alloc)?,
+            dropped: Rows::new(alloc)?,
+        })
     }
 
     // Counts what the steps did to one more read.

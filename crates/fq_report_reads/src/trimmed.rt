@@ -46,8 +46,7 @@ impl Trimmed {
     pub fn new(read: &ReadView<'_>, steps: &Steps) -> Trimmed
         ensures { result ≡ passage steps.now read.now }
     {
-        // By this call the proof learns that the read is valid.
-        let _ = read.title();
+        let _ = read.title(); // The proof learns that the read is valid.
         let encoding = read.encoding();
         let qual = read.qual();
         let mut shortened = [0; MAX_STEPS];

@@ -124,15 +124,13 @@ module _ {T : Type 0} where
       let first = after_first x y xs ys w pos pre in
       let head : x ≡ y = first.0 in
       let end' : every (length xs % w) w ys ≡ every (length xs % w) w xs =
-      (let P : ℕ → Type 0 = λ k. every k w (y ∷ ys) ≡ every k w (x ∷ xs) in
-      let Q : ℕ → Type 0 = λ k. every k w ys ≡ every k w xs in
-      let below = mod_below (length xs) w pos in
+      (let below = mod_below (length xs) w pos in
       elim (cases_lt (suc (length xs % w)) w) [
-        | inl more ↦ subst P (next_within (length xs) w more) end
+        | inl more ↦ rw (next_within (length xs) w more) at end
         | inr last ↦ (let e : y ∷ every (w - 1) w ys ≡ x ∷ every (w - 1) w xs =
-            subst P (next_wraps (length xs) w pos (omega arith)) end in
+            rw (next_wraps (length xs) w pos (omega arith)) at end in
             let t : every (w - 1) w ys ≡ every (w - 1) w xs = cc in
-            subst Q (let e : w - 1 ≡ length xs % w = omega arith in e) t)
+            let here : w - 1 ≡ length xs % w = omega arith in rw here at t)
       ]) in
       let rest : xs ≡ ys = whole_from_turns xs ys w pos first.1 end' in
       cc

@@ -1,5 +1,5 @@
 -- Facts about members at the same index, and what is known of new lanes.
-use Rattle.std.proofs.Common.{◌≡◌, ℕ, ◌+◌, false, List, [], ◌∷◌, ◌++◌, length, length-append, sym, subst, arith}
+use Rattle.std.proofs.Common.{◌≡◌, ℕ, ◌+◌, false, List, [], ◌∷◌, ◌++◌, length, length-append, arith}
 use Rattle.std.specs.List.{AllZip}
 use Rattle.std.proofs.lemmas.Grind.{common_steps}
 use Rattle.fq_lane.specs.History.{History, Name}
@@ -16,34 +16,16 @@ module _ {A B : Type 0} (R : A → B → Type 0) where
   pub zip_push : (xs : List A) (ys : List B) (x : A) (y : B) → AllZip R xs ys → R x y →
       AllZip R (xs ++ x ∷ []) (ys ++ y ∷ [])
   zip_push [] [] x y h r = (r, tt)
-  zip_push [] (b ∷ ys) x y h r = absurd h
-  zip_push (a ∷ xs) [] x y h r = absurd h
   zip_push (a ∷ xs) (b ∷ ys) x y h r = (h.0, zip_push xs ys x y h.1 r)
-
-  -- `zip_push`, if the second list with its new member is known by an equation
-  pub zip_pushed : (xs : List A) (ys zs : List B) (x : A) (y : B) → AllZip R xs ys → R x y →
-      zs ≡ ys ++ y ∷ [] → AllZip R (xs ++ x ∷ []) zs
-  zip_pushed xs ys zs x y h r e = subst (AllZip R (xs ++ x ∷ [])) (sym e) (zip_push xs ys x y h r)
+  zip_push _ _ x y h r = absurd h
 
 module _ {A B C : Type 0} (R : A → B → C → Type 0) where
-  each3_push : (xs : List A) (ys : List B) (zs : List C) (x : A) (y : B) (z : C) →
+  -- what holds at each index of three lists still holds after a member is added to each
+  pub each3_push : (xs : List A) (ys : List B) (zs : List C) (x : A) (y : B) (z : C) →
       Each3 R xs ys zs → R x y z → Each3 R (xs ++ x ∷ []) (ys ++ y ∷ []) (zs ++ z ∷ [])
   each3_push [] [] [] x y z h r = (r, tt)
   each3_push (a ∷ xs) (b ∷ ys) (c ∷ zs) x y z h r = (h.0, each3_push xs ys zs x y z h.1 r)
-  each3_push [] [] (c ∷ zs) x y z h r = absurd h
-  each3_push [] (b ∷ ys) zs x y z h r = absurd h
-  each3_push (a ∷ xs) [] zs x y z h r = absurd h
-  each3_push (a ∷ xs) (b ∷ ys) [] x y z h r = absurd h
-
-  -- what holds at each index of three lists still holds after a member is added to each
-  pub each3_pushed : (xs xs' : List A) (ys ys' : List B) (zs zs' : List C) (x : A) (y : B) (z : C) →
-      Each3 R xs ys zs → R x y z → xs' ≡ xs ++ x ∷ [] → ys' ≡ ys ++ y ∷ [] → zs' ≡ zs ++ z ∷ [] →
-      Each3 R xs' ys' zs'
-  each3_pushed xs xs' ys ys' zs zs' x y z h r e f k =
-      subst (λ us. Each3 R us ys' zs') (sym e)
-      (subst (λ us. Each3 R (xs ++ x ∷ []) us zs') (sym f)
-      (subst (λ us. Each3 R (xs ++ x ∷ []) (ys ++ y ∷ []) us) (sym k)
-      (each3_push xs ys zs x y z h r)))
+  each3_push _ _ _ x y z h r = absurd h
 
 module _ {A B C : Type 0} (R Q : A → B → C → Type 0) where
   -- what holds of nothing
@@ -51,10 +33,7 @@ module _ {A B C : Type 0} (R Q : A → B → C → Type 0) where
       Each3 Q xs ys zs
   nothing_left [] [] [] h e = tt
   nothing_left (a ∷ xs) (b ∷ ys) (c ∷ zs) h e = cc
-  nothing_left [] [] (c ∷ zs) h e = absurd h
-  nothing_left [] (b ∷ ys) zs h e = absurd h
-  nothing_left (a ∷ xs) [] zs h e = absurd h
-  nothing_left (a ∷ xs) (b ∷ ys) [] h e = absurd h
+  nothing_left _ _ _ h e = absurd h
 
 -- a lane through which nothing has gone
 pub fresh_is : {T : Type 0} (l : History T) (n : Name) → l.name ≡ n → l.items ≡ [] →

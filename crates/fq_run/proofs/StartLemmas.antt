@@ -1,11 +1,14 @@
 -- A run whose threads could not all be started.
-use Rattle.std.proofs.Common.{◌≡◌, ◌↔◌, Option, Some, None, IfSome, false, IsTrue, Result, ℕ, ◌-◌, ◌<◌, List, [], ◌∷◌, ◌++◌, length, take, refl, sym, ap, ◌∙◌, subst, arith, ◌≤◌, ◌^◌, vec_len, ◌&&◌, Bool, IsSome}
+use Rattle.std.proofs.Common.{◌≡◌, ◌↔◌, Option, Some, None, IfSome, IsSome, true, false, Result, ℕ, List, [], length, refl, sym, ap, ◌∙◌, subst, arith, ◌≤◌, ◌^◌, vec_len, Bool}
 use Rattle.fq_lane.specs.History.{History}
 use Rattle.fq_lane.specs.declared.tx.NotEnded.{NotEnded}
 use Rattle.fq_text.specs.declared.memory.MemoryRefused.{MemoryRefused}
 use Rattle.fq_block.specs.Blocks.{Numbered}
+use Rattle.fq_text.specs.declared.encoding.Encoding.{Encoding}
 use Rattle.fq_pair.specs.declared.out.Out.{Out}
-use Rattle.fq_pair.specs.Outputs.{text_of, texts_of, no_counts}
+use Rattle.fq_pair.specs.declared.fault.InputFault.TheVariants.{NamesDiffer}
+use Rattle.fq_pair.specs.Mates.{MateNames}
+use Rattle.fq_pair.specs.Outputs.{no_counts}
 use Rattle.fq_run_core.specs.declared.outcome.Outcome.{Outcome}
 use Rattle.fq_run_core.specs.declared.outcome.Outcome.TheVariants as outcome
 use Rattle.fq_run_core.specs.declared.reading_end.ReadingEnd.{ReadingEnd}
@@ -13,26 +16,26 @@ use Rattle.fq_run_core.specs.Choices.{Choices}
 use Rattle.fq_run.specs.dealer.Dealt.{CanDeal, HasDealt}
 use Rattle.fq_run.specs.declared.dealer.Dealer.{Dealer}
 use Rattle.fq_run.specs.declared.ready.Ready.{Ready}
-use Rattle.fq_run.proofs.crew.WorkerLemmas.{to_dealt}
+use Rattle.fq_run.proofs.MatchLemmas.{to_dealt}
 use Rattle.fq_text.specs.Devices.{FeedState}
-use Rattle.fq_run_core.specs.Devices.{OutletStates, OutletsTook}
-use Rattle.fq_run_core.specs.Endings.{Run, all_pairs, ends_whole, IsHandedBack, IsUntouched, EveryEnding}
+use Rattle.fq_run_core.specs.Devices.{OutletStates}
+use Rattle.fq_run_core.specs.Endings.{Run, all_pairs, IsHandedBack, EveryEnding, AreItsNames, TellsNames}
 use Rattle.fq_run_core.specs.Fates.{Unbroken}
-use Rattle.fq_run_core.specs.Outcomes.{rank}
+use Rattle.fq_run_core.specs.Outcomes.{is_unmatched}
 use Rattle.std.specs.Option.{option_map}
 use Rattle.std.proofs.lemmas.Grind.{common_steps}
-use Rattle.fq_run.specs.Threads.{IsReady, IsFresh, IsThreaded, run_from}
+use Rattle.fq_run.specs.Threads.{IsReady, IsFresh, IsThreaded, run_from, names_left}
 use Rattle.fq_run.specs.declared.conclusion.Conclusion.{Conclusion}
 use Rattle.fq_pair.specs.Forms.{Form}
 use Rattle.fq_pair.specs.Walks.{SourceState, GoesOn}
 use Rattle.fq_run_core.specs.PairsRead.{fresh_source, feed_in}
+use Rattle.fq_run_core.proofs.OutletLemmas.{flush_keeps}
 use Rattle.fq_run_core.proofs.PassLemmas.{runs_refused}
 use Rattle.fq_run_core.proofs.RunLemmas.{run_every}
 use Rattle.fq_run_core.specs.declared.reading_end.ReadingEnd.TheVariants as reading
 use Rattle.fq_run_core.specs.Writing.{FlushesAfter, no_halt}
-use Rattle.fq_report_pairs.specs.Results.{tally_if}
 use Rattle.fq_run_core.specs.declared.total.Total.{Total}
-use Rattle.fq_run_core.proofs.TotalLemmas.{none_at}
+use Rattle.std.proofs.Math.Bool.{and-false}
 use Rattle.fq_run_core.specs.Totals.{no_total, ended}
 
 -- two things of one source are there, or neither is
@@ -70,64 +73,68 @@ back_as_it_was : (old : FeedState) (left : Option FeedState) → IfSome left (λ
 back_as_it_was old None same = tt
 back_as_it_was old (Some new) same = grind (arith, common_steps)
 
--- if a thread was refused, the outcome is no other
-apart : (run : Run) → run.outcome ≡ outcome.Spawn → (o : Outcome) → (rank o ≡ 1 → ⊥) →
-    run.outcome ≡ o → ⊥
-apart run e o other is = other (sym (ap rank is) ∙ ap rank e)
-
-partial : (run : Run) → run.outcome ≡ outcome.Spawn → IsTrue (ends_whole run.outcome) → ⊥
-partial run is whole = let e : IsTrue false = subst IsTrue (ap ends_whole is) whole in absurd cc
-
-module _ (c : Choices) (run : Run) (e : run.outcome ≡ outcome.Spawn) (none : run.counts ≡ no_counts)
-    (untallied : run.tally ≡ None) (same : IsUntouched run)
-    (both : (run.forward_left ≡ None) ↔ (run.reverse_left ≡ None)) (holds : Bool)
+module _ (c : Choices) (form : Form) (f r : FeedState) (f' r' : Option FeedState)
+    (o : OutletStates) (forward : IfSome f' (λ left. left ≡ f))
+    (reverse : IfSome r' (λ left. left ≡ r)) (both : (f' ≡ None) ↔ (r' ≡ None)) (holds : Bool)
     (lacked : MemoryRefused) where
-  unwritten : OutletsTook run.outlets run.outlets_left
-      (λ out. text_of out (texts_of c.steps []) ++ []) None
-  unwritten = grind (arith, common_steps)
+  -- the run
+  abbrev unstarted_run : Run
+  unstarted_run = record {
+    form = form;
+    forward = f;
+    reverse = r;
+    outlets = o;
+    forward_left = f';
+    reverse_left = r';
+    outlets_left = o;
+    outcome = outcome.Spawn;
+    counts = no_counts;
+    tally = None;
+  }
 
-  every : EveryEnding c run
+  every : EveryEnding c unstarted_run
   every = record {
     whole = [];
     fate = Unbroken;
-    counts = none;
-    tally = untallied ∙ none_at false c.tallied None c.steps [] refl
-        ∙ ap (λ (b : Bool). tally_if (c.tallied && b) c.steps []) (sym (ap ends_whole e));
-    took = unwritten;
-    flushed = λ none started. absurd (started e);
+    counts = refl;
+    tally = rw and-false refl;
+    took = grind (arith, common_steps);
+    flushed = λ none started. absurd (started refl);
     cut_short = tt;
-    first = λ told. ((all_pairs c run).mates, refl);
-    forward = back_as_it_was run.forward run.forward_left same.forward;
-    reverse = back_as_it_was run.reverse run.reverse_left same.reverse;
+    first = λ told. ((all_pairs c unstarted_run).mates, refl);
+    forward = back_as_it_was f f' forward;
+    reverse = back_as_it_was r r' reverse;
     outcome = record {
       spawn = λ at. refl;
-      write = λ out at. absurd (apart run e (outcome.Write out) (λ q. cc) at);
-      read = λ side at. absurd (apart run e (outcome.Read side) (λ q. cc) at);
-      endless = λ side at told. absurd (apart run e (outcome.Endless side) (λ q. cc) at);
-      outlet_failed = λ out at. let n = ap rank e in omega arith;
-      feed_failed = λ side some. let n = ap rank e in omega arith;
-      cut_at_read = λ told side at. absurd (apart run e (outcome.Read side) (λ q. cc) at);
-      cut_at_endless = λ told side at. absurd (apart run e (outcome.Endless side) (λ q. cc) at);
-      next_at_read = λ one told side at. absurd (apart run e (outcome.Read side) (λ q. cc) at);
-      next_at_endless =
-          λ one told side at. absurd (apart run e (outcome.Endless side) (λ q. cc) at);
-      flushed = λ told out is at. absurd (apart run e (outcome.Write out) (λ q. cc) at);
+      write = λ out at. absurd cc;
+      read = λ side at. absurd cc;
+      endless = λ side at told. absurd cc;
+      outlet_failed = λ out at. omega arith;
+      feed_failed = λ side some. omega arith;
+      cut_at_read = λ told side at. absurd cc;
+      cut_at_endless = λ told side at. absurd cc;
+      next_at_read = λ one told side at. absurd cc;
+      next_at_endless = λ one told side at. absurd cc;
+      flushed = λ told out is at. absurd cc;
     };
   }
 
   -- what is promised of a run on several threads holds if a thread was refused
-  pub unstarted : IsThreaded c holds run None (Some lacked)
+  pub unstarted : {told : Option MateNames} →
+      IsThreaded c holds unstarted_run None (Some lacked) told
   unstarted = record {
-    lane = λ at. absurd (apart run e outcome.Lane (λ q. cc) at);
+    files = λ out. refl;
+    lane = λ at. absurd cc;
     no_other = λ some. absurd cc;
     memory = λ at. refl;
     spawn = λ at. refl;
-    gate = λ at. absurd (apart run e outcome.Gate (λ q. cc) at);
-    forward = λ gone. e;
-    reverse = λ gone. e;
+    gate = λ at. absurd cc;
+    forward = λ gone. refl;
+    reverse = λ gone. refl;
     together = both;
-    untouched = λ at. same;
-    whole = λ ends told. absurd (partial run e ends);
+    untouched = λ at. record { outlets = refl; forward = forward; reverse = reverse };
+    names = tt;
+    whole = λ ends told. absurd cc;
     every = λ sound. every;
   }
 
@@ -135,7 +142,7 @@ module _ (c : Choices) (run : Run) (e : run.outcome ≡ outcome.Spawn) (none : r
 pub refused : (form : Form) (c : Choices) (f r f' r' : FeedState) (before after : OutletStates)
     (counted : Total) (failed : Option Out) (lacked : MemoryRefused) → f' ≡ f → r' ≡ r →
     counted ≡ no_total false → FlushesAfter None before after failed →
-    f.failures ≡ 0 → r.failures ≡ 0 → {holds : Bool} →
+    f.failures ≡ 0 → r.failures ≡ 0 → {holds : Bool} → {told : Option MateNames} →
     IsThreaded c holds (record {
       form = form;
       forward = f;
@@ -149,10 +156,11 @@ pub refused : (form : Form) (c : Choices) (f r f' r' : FeedState) (before after 
       counts =
           counted.counts;
       tally = counted.tally;
-    }) None (Some lacked)
+    }) None (Some lacked) told
 refused form c f r f' r' before after counted failed lacked same also none flushed sound sound' =
-    let p = runs_refused lacked form c f r f' r' before counted same also none in
+    let p = runs_refused {E = Unit {0}} lacked form c f r f' r' before counted same also none in
     record {
+      files = flush_keeps None before after failed flushed;
       lane = λ at. absurd cc;
       no_other = λ there. absurd cc;
       memory = λ at. refl;
@@ -162,11 +170,21 @@ refused form c f r f' r' before after counted failed lacked same also none flush
       reverse = λ gone. absurd cc;
       together = (λ gone. absurd cc, λ gone. absurd cc);
       untouched = λ at. absurd cc;
+      names = tt;
       whole = λ ends told. absurd cc;
       every = λ lane. run_every form c f r f' r' before before counted no_halt
           (Some (reading.Memory lacked)) None p after failed outcome.Memory flushed refl sound
           sound' counted (none ∙ sym (ap (ended outcome.Memory) none));
     }
+
+-- what holds of the names that a source has holds of those that were returned
+names_told : (form : Form) (e : Encoding) (f r : FeedState) (o : Outcome)
+    (held told : Option MateNames) (lacked lacked' : Option MemoryRefused) →
+    (IsSome lacked → IsSome lacked') → (is_unmatched o ≡ true → TellsNames held told lacked') →
+    AreItsNames form e f r o held lacked → AreItsNames form e f r o told lacked'
+names_told form e f r (outcome.Input (NamesDiffer k)) held told lacked lacked' witness tells is =
+    grind (arith, common_steps)
+names_told form e f r o held told lacked lacked' witness tells is = tt
 
 -- what holds of a run over a source holds of the run over the feeds of that source
 pub closed : {S F G : Type 0} (state : S → SourceState) (fs : F → FeedState) (gs : G →
@@ -176,11 +194,13 @@ pub closed : {S F G : Type 0} (state : S → SourceState) (fs : F → FeedState)
     (form : Form) (c : Choices) (s : SourceState) (f : F) (r : G) →
     s ≡ fresh_source form c (fs f) (gs r) → (before after : OutletStates) (e : Conclusion S) →
     (o : Outcome) (counted : Total) (f' : Option F) (r' : Option G) (u : Option NotEnded)
-    (lacked : Option MemoryRefused) → o ≡ e.outcome → counted ≡ e.total → u ≡ e.unended →
-    lacked ≡ e.refused → f' ≡ option_map forward_of e.source →
+    (lacked : Option MemoryRefused) (told : Option MateNames) → o ≡ e.outcome → counted ≡ e.total →
+    u ≡ e.unended → (IsSome e.refused → IsSome lacked) →
+    (is_unmatched o ≡ true → TellsNames (names_left state e) told lacked) →
+    f' ≡ option_map forward_of e.source →
     r' ≡ option_map reverse_of e.source →
     {holds : Bool} →
-    IsThreaded c holds (run_from state s before after e) e.unended e.refused →
+    IsThreaded c holds (run_from state s before after e) e.unended e.refused (names_left state e) →
     IsThreaded c holds (record {
       form = form;
       forward = fs f;
@@ -194,10 +214,10 @@ pub closed : {S F G : Type 0} (state : S → SourceState) (fs : F → FeedState)
       outcome = o;
       counts = counted.counts;
       tally = counted.tally;
-    }) u lacked
+    }) u lacked told
 closed state fs gs forward_of reverse_of first second form c s f r is before after e o counted f' r'
-    u lacked outcome_is counts_are ended lacked_is left right {holds} t =
-    grind (arith, common_steps)
+    u lacked told outcome_is counts_are ended witness names left right {holds} t =
+    grind (arith, common_steps, names_told)
 
 -- a dealer whose lanes are new, over a source that nothing was read from
 pub can_deal : {S : Type 0} (tallied : Bool) (workers : ℕ) (c : Choices) (s : SourceState)

@@ -1,4 +1,2 @@
 -- Lemmas on the thread that writes.
-pub mod TurnLemmas
-pub mod StopLemmas
 pub mod CollectLemmas

@@ -1,3 +1,2 @@
 -- Lemmas on the thread that reads.
-pub mod FillLemmas
 pub mod DealerLemmas

@@ -3,11 +3,12 @@
 use Rattle.std.specs.Prelude.{◌≡◌, ◌≢◌, ◌≤◌, ◌<◌, ℕ, Bool, IsTrue, ◌↔◌, List, [], ◌∷◌, length, vec_len, vec_capacity}
 use Rattle.std.specs.Prelude.{Option, Some, None, IfSome, IsSome, Result, IsOkAnd}
 use Rattle.std.specs.List.{AllZip}
-use Rattle.std.specs.Option.{option_map}
+use Rattle.std.specs.Option.{option_map, option_and_then}
 use Rattle.fq_lane.specs.declared.tx.NotEnded.{NotEnded}
 use Rattle.fq_lane.specs.History.{History}
 use Rattle.fq_text.specs.declared.memory.MemoryRefused.{MemoryRefused}
 use Rattle.fq_pair.specs.declared.out.Out.{Out}
+use Rattle.fq_pair.specs.Mates.{MateNames}
 use Rattle.fq_work.specs.declared.ends.WorkEnds.{WorkEnds}
 use Rattle.fq_work.specs.declared.ends.Worked.{Worked}
 use Rattle.fq_work.specs.declared.reply.Reply.{Reply}
@@ -17,9 +18,9 @@ use Rattle.fq_run_core.specs.Choices.{Choices}
 use Rattle.fq_run.specs.lanes.Laying.{fresh, Laid, IsLaid, AreFor}
 use Rattle.fq_run.specs.crew.Workers.{Seated}
 use Rattle.fq_run.specs.Confirming.{Confirmed}
-use Rattle.fq_run_core.specs.Devices.{OutletStates}
+use Rattle.fq_run_core.specs.Devices.{KeepFiles, OutletStates}
 use Rattle.fq_run.specs.Each.{Each3}
-use Rattle.fq_run_core.specs.Endings.{Run, AreTold, ends_whole, IsTrimmed, IsUntouched, EveryEnding}
+use Rattle.fq_run_core.specs.Endings.{Run, AreTold, ends_whole, IsTrimmed, IsUntouched, AreItsNames, EveryEnding}
 use Rattle.fq_run_core.specs.Outcomes.{outcome_of}
 use Rattle.fq_pair.specs.Walks.{SourceState}
 use Rattle.fq_run_core.specs.PairsRead.{fresh_source, feed_in}
@@ -115,13 +116,21 @@ run_from state s before after ending = record {
   tally = ending.total.tally;
 }
 
--- What a run on several threads guarantees. The outcome is `Lane` exactly if a lane could not be
+-- the names that the source of a run has at its end
+abbrev pub names_left : {S : Type 0} → (S → SourceState) → Conclusion S → Option MateNames
+names_left state ending = option_and_then (λ s. (state s).names) ending.source
+
+-- What a run on several threads guarantees. Outlets keep the files that they write. The outcome is
+-- `Lane` exactly if a lane could not be
 -- confirmed. If it is `Memory` or `Spawn`, there is a witness; if it is `Gate`, the gate may hold
--- back a block. Feeds are lost only if a thread was refused, and only both together. If a thread
--- was refused, nothing was read or written. If the run ended at the end of the input, or at a fault
--- in it, all pairs before that were trimmed. `EveryEnding` holds unless the outcome is `Lane`.
+-- back a block. Names that differ are told, or there is a witness. Feeds are lost only if a thread
+-- was refused, and only both together. If a thread was refused, nothing was read or written. If the
+-- run ended at the end of the input, or at a fault in it, all pairs before that were trimmed.
+-- `EveryEnding` holds unless the outcome is `Lane`.
 pub record IsThreaded (c : Choices) (holds : Bool) (run : Run)
-    (unended : Option NotEnded) (refused : Option MemoryRefused) : Type 0 where
+    (unended : Option NotEnded) (refused : Option MemoryRefused) (told : Option MateNames) :
+    Type 0 where
+  pub files : KeepFiles run.outlets run.outlets_left
   pub lane : run.outcome ≡ outcome.Lane → IsSome unended
   pub no_other : IsSome unended → run.outcome ≡ outcome.Lane
   pub memory : run.outcome ≡ outcome.Memory → IsSome refused
@@ -131,5 +140,6 @@ pub record IsThreaded (c : Choices) (holds : Bool) (run : Run)
   pub reverse : run.reverse_left ≡ None → run.outcome ≡ outcome.Spawn
   pub together : (run.forward_left ≡ None) ↔ (run.reverse_left ≡ None)
   pub untouched : run.outcome ≡ outcome.Spawn → IsUntouched run
+  pub names : AreItsNames run.form c.encoding run.forward run.reverse run.outcome told refused
   pub whole : IsTrue (ends_whole run.outcome) → AreTold run → IsTrimmed c run
   pub every : run.outcome ≢ outcome.Lane → EveryEnding c run

@@ -6,7 +6,7 @@ ghost use Rattle.fq_run.specs.Shares.{gather};
 ghost use Rattle.fq_run_core.specs.Totals.{no_total};
 ghost use Rattle.fq_run_core.specs.Devices.{OutletStates, outlet_states, AreHealthy};
 ghost use Rattle.fq_run.specs.lanes.Items.{names_of, lists_of, AllClosed, IsDealt};
-ghost use Rattle.fq_run.specs.collector.Stops.{HearsAll, Drains};
+ghost use Rattle.fq_run.specs.collector.Stops.{heard_at, HearsAll, Drains};
 
 pub(crate) mod ends;
 pub(crate) mod phase;
@@ -201,7 +201,15 @@ impl Collector {
         ensures drains { Drains self.old self.new }
     {
         let ends = &mut self.replies[at];
-        match ends.replies.take() {
+        let taken = ends.replies.take();
+        self.hear(taken)
+    }
+
+    // Notes a stop, and drops anything else. Returns false if nothing was taken.
+    fn hear(&mut self, taken: Taken<Reply>) -> bool
+        ensures { self.new ≡ record self.old { halt = heard_at taken self.old.halt } }
+    {
+        match taken {
             Taken::Item(Reply::Stop(cause)) => {
                 self.halt = add_stop(self.halt, cause);
                 true

@@ -2,10 +2,12 @@
 
 ghost use Rattle.std.specs.Prelude.{◌≡◌, ◌≢◌, true, None, IsTrue, IsSome};
 ghost use Rattle.std.specs.Option.{option_map};
-ghost use Rattle.fq_run_core.specs.Devices.{outlet_states, AreHealthy};
+ghost use Rattle.fq_run_core.specs.Devices.{outlet_states, AreHealthy, KeepFiles};
+ghost use Rattle.fq_pair.specs.Forms.{InterleavedText};
+ghost use Rattle.fq_pair.specs.Walks.{interleaved_state};
 ghost use Rattle.fq_run_core.specs.Outcomes.{is_unmatched};
-ghost use Rattle.fq_run_core.specs.Endings.{interleaved_run_of, AreTold, ends_whole, IsTrimmed, IsUntouched, EveryEnding};
-ghost use Rattle.fq_run.specs.Threads.{IsThreaded};
+ghost use Rattle.fq_run_core.specs.Endings.{interleaved_run_of, AreTold, ends_whole, IsTrimmed, IsUntouched, AreItsNames, TellsNames, EveryEnding};
+ghost use Rattle.fq_run.specs.Threads.{names_left, IsThreaded};
 ghost use Rattle.std.specs.Arc.{arc_value};
 
 use crate::conclusion::Conclusion;
@@ -45,7 +47,11 @@ pub fn run_threads_mixed<
     ensures memory { result.outcome ≡ Outcome.Memory → IsSome result.refused }
     ensures spawn { result.outcome ≡ Outcome.Spawn → IsSome result.refused }
     ensures gate { result.outcome ≡ Outcome.Gate → IsTrue (H.holds (arc_value gate)) }
+    ensures files { KeepFiles
+        (outlet_states O.state outlets.old) (outlet_states O.state outlets.new) }
     ensures unmatched { IsSome result.unmatched → is_unmatched result.outcome ≡ true }
+    ensures names { AreItsNames InterleavedText settings.now.encoding (F.state feed) (F.state feed)
+        result.outcome result.unmatched result.refused }
     ensures feed { result.feed ≡ None → result.outcome ≡ Outcome.Spawn }
     // If a thread was refused, the outlets are unchanged, and so is the feed if it is handed back.
     ensures untouched { let run = interleaved_run_of F.state (outlet_states O.state)
@@ -83,7 +89,7 @@ fn begin<
     requires outlets { AreHealthy (outlet_states O.state outlets.old) }
     ensures threaded { IsThreaded settings.now (H.holds (arc_value gate.now))
         (interleaved_run_of F.state (outlet_states O.state)
-        feed outlets.old outlets.new result) result.unended result.refused }
+        feed outlets.old outlets.new result) result.unended result.refused result.unmatched }
     ensures unmatched { IsSome result.unmatched → is_unmatched result.outcome ≡ true }
 {
     match open_interleaved(alloc, settings, feed) {
@@ -109,7 +115,10 @@ fn ending_of<F: Feed>(alloc: Global, conclusion: Conclusion<MixedSource<F>>) -> 
     ensures outcome { result.outcome ≡ conclusion.outcome }
     ensures total { record { counts = result.counts; tally = result.tally } ≡ conclusion.total }
     ensures unended { result.unended ≡ conclusion.unended }
-    ensures refused { result.refused ≡ conclusion.refused }
+    ensures refused { IsSome conclusion.refused → IsSome result.refused }
+    ensures told { is_unmatched result.outcome ≡ true →
+        TellsNames (names_left (interleaved_state F.state) conclusion)
+        result.unmatched result.refused }
     ensures unmatched { IsSome result.unmatched → is_unmatched result.outcome ≡ true }
     ensures feed { result.feed ≡ option_map (λ s. s.source.feed) conclusion.source }
 {
@@ -121,12 +130,10 @@ fn ending_of<F: Feed>(alloc: Global, conclusion: Conclusion<MixedSource<F>>) -> 
         refused,
     } = conclusion;
     let (names, feed) = match source {
-        Some(source) => (
-            source.unmatched_names(alloc).unwrap_or(None),
-            Some(source.into_feed()),
-        ),
-        None => (None, None),
+        Some(source) => (source.unmatched_names(alloc), Some(source.into_feed())),
+        None => (Ok(None), None),
     };
+    let (unmatched, refused) = names_at(outcome, names, refused);
     MixedEnding {
         outcome,
         counts: total.counts,
@@ -134,6 +141,6 @@ fn ending_of<F: Feed>(alloc: Global, conclusion: Conclusion<MixedSource<F>>) -> 
         feed,
         unended,
         refused,
-        unmatched: names_at(outcome, names),
+        unmatched,
     }
 }

@@ -7,7 +7,7 @@ ghost use Rattle.fq_run.specs.Confirming.{CanConfirm};
 ghost use Rattle.fq_run_core.specs.Totals.{no_total};
 ghost use Rattle.fq_run_core.specs.Devices.{outlet_states, AreHealthy};
 ghost use Rattle.fq_run.specs.Each.{Each3};
-ghost use Rattle.fq_run.specs.Threads.{IsReady, tallies_from, IsFresh, IsManned, run_from, IsThreaded, Concludes};
+ghost use Rattle.fq_run.specs.Threads.{IsReady, tallies_from, IsFresh, IsManned, run_from, names_left, IsThreaded, Concludes};
 
 use crate::collector::ends::CollectorEnds;
 use crate::collector::{Collector, collect};
@@ -51,7 +51,7 @@ pub(crate) fn run<
     ensures { IsThreaded settings.now (H.holds (arc_value gate.now))
         (run_from S.state (S.state source)
         (outlet_states O.state outlets.old) (outlet_states O.state outlets.new) result)
-        result.unended result.refused }
+        result.unended result.refused (names_left S.state result) }
 {
     let lanes = match Lanes::new(alloc, settings) {
         Ok(lanes) => lanes,
@@ -88,7 +88,7 @@ fn start<
     ensures { IsThreaded settings.now (H.holds (arc_value gate.now))
         (run_from S.state (S.state dealer.source)
         (outlet_states O.state outlets.old) (outlet_states O.state outlets.new) result)
-        result.unended result.refused }
+        result.unended result.refused (names_left S.state result) }
 {
     let Ready {
         starter,
@@ -139,7 +139,7 @@ fn attend<R: Threads + Wait, S: PairReader, O: Outlet>(
     ensures { IsThreaded crew.dealer.promise.settings crew.holds
         (run_from S.state (S.state crew.dealer.promise.source.value)
         (outlet_states O.state outlets.old) (outlet_states O.state outlets.new) result)
-        result.unended result.refused }
+        result.unended result.refused (names_left S.state result) }
 {
     let Crew {
         mut starter,

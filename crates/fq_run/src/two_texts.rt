@@ -2,10 +2,12 @@
 
 ghost use Rattle.std.specs.Prelude.{◌≡◌, ◌≢◌, ◌↔◌, true, None, IsTrue, IsSome};
 ghost use Rattle.std.specs.Option.{option_map};
-ghost use Rattle.fq_run_core.specs.Devices.{outlet_states, AreHealthy};
+ghost use Rattle.fq_run_core.specs.Devices.{outlet_states, AreHealthy, KeepFiles};
+ghost use Rattle.fq_pair.specs.Forms.{TwoTexts};
+ghost use Rattle.fq_pair.specs.Walks.{source_state};
 ghost use Rattle.fq_run_core.specs.Outcomes.{is_unmatched};
-ghost use Rattle.fq_run_core.specs.Endings.{run_of, AreTold, ends_whole, IsTrimmed, IsUntouched, EveryEnding};
-ghost use Rattle.fq_run.specs.Threads.{IsThreaded};
+ghost use Rattle.fq_run_core.specs.Endings.{run_of, AreTold, ends_whole, IsTrimmed, IsUntouched, AreItsNames, TellsNames, EveryEnding};
+ghost use Rattle.fq_run.specs.Threads.{names_left, IsThreaded};
 ghost use Rattle.std.specs.Arc.{arc_value};
 
 use crate::conclusion::Conclusion;
@@ -72,7 +74,11 @@ pub fn run_threads<
     ensures memory { result.outcome ≡ Outcome.Memory → IsSome result.refused }
     ensures spawn { result.outcome ≡ Outcome.Spawn → IsSome result.refused }
     ensures gate { result.outcome ≡ Outcome.Gate → IsTrue (H.holds (arc_value gate)) }
+    ensures files { KeepFiles
+        (outlet_states O.state outlets.old) (outlet_states O.state outlets.new) }
     ensures unmatched { IsSome result.unmatched → is_unmatched result.outcome ≡ true }
+    ensures names { AreItsNames TwoTexts settings.now.encoding (F.state forward) (G.state reverse)
+        result.outcome result.unmatched result.refused }
     ensures forward { result.forward ≡ None → result.outcome ≡ Outcome.Spawn }
     ensures reverse { result.reverse ≡ None → result.outcome ≡ Outcome.Spawn }
     ensures together { (result.forward ≡ None) ↔ (result.reverse ≡ None) }
@@ -115,7 +121,8 @@ fn begin<
     requires outlets { AreHealthy (outlet_states O.state outlets.old) }
     ensures threaded { IsThreaded settings.now (H.holds (arc_value gate.now))
         (run_of F.state G.state (outlet_states O.state)
-        forward reverse outlets.old outlets.new result) result.unended result.refused }
+        forward reverse outlets.old outlets.new result) result.unended result.refused
+        result.unmatched }
     ensures unmatched { IsSome result.unmatched → is_unmatched result.outcome ≡ true }
 {
     match open(alloc, settings, forward, reverse) {
@@ -145,7 +152,10 @@ fn ending_of<F: Feed, G: Feed>(
     ensures outcome { result.outcome ≡ conclusion.outcome }
     ensures total { record { counts = result.counts; tally = result.tally } ≡ conclusion.total }
     ensures unended { result.unended ≡ conclusion.unended }
-    ensures refused { result.refused ≡ conclusion.refused }
+    ensures refused { IsSome conclusion.refused → IsSome result.refused }
+    ensures told { is_unmatched result.outcome ≡ true →
+        TellsNames (names_left (source_state F.state G.state) conclusion)
+        result.unmatched result.refused }
     ensures unmatched { IsSome result.unmatched → is_unmatched result.outcome ≡ true }
     ensures forward { result.forward ≡ option_map (λ s. s.forward.feed) conclusion.source }
     ensures reverse { result.reverse ≡ option_map (λ s. s.reverse.feed) conclusion.source }
@@ -159,13 +169,13 @@ fn ending_of<F: Feed, G: Feed>(
     } = conclusion;
     let (names, forward, reverse) = match source {
         Some(source) => {
-            // They are only for the reason, so a run doesn't fail for want of memory for them.
-            let names = source.unmatched_names(alloc).unwrap_or(None);
+            let names = source.unmatched_names(alloc);
             let (forward, reverse) = source.into_feeds();
             (names, Some(forward), Some(reverse))
         }
-        None => (None, None, None),
+        None => (Ok(None), None, None),
     };
+    let (unmatched, refused) = names_at(outcome, names, refused);
     Ending {
         outcome,
         counts: total.counts,
@@ -174,6 +184,6 @@ fn ending_of<F: Feed, G: Feed>(
         reverse,
         unended,
         refused,
-        unmatched: names_at(outcome, names),
+        unmatched,
     }
 }

@@ -1,19 +1,91 @@
 -- The pairs of texts that came only in part.
-use Rattle.std.proofs.Common.{◌≡◌, ℕ, suc, ◌+◌, ◌≤◌, Bool, List, [], ◌∷◌, ◌++◌, length, refl, ap, sym, subst, ◌∙◌, arith, append_assoc}
-use Rattle.std.proofs.lemmas.List.{append_cancel_right}
+use Rattle.std.proofs.Common.{arith, ◌≡◌, ℕ, suc, Bool, true, List, ◌++◌, ap, sym, ◌∙◌, ◌+◌, ◌≤◌, [], ◌∷◌, length, refl, subst, append_assoc}
+use Rattle.std.proofs.lemmas.Bool.{cond-true}
 use Rattle.std.proofs.lemmas.Grind.{common_steps}
 use Rattle.fq_text.specs.declared.encoding.Encoding.{Encoding}
-use Rattle.fq_text.specs.Grammar.{Found, front}
-use Rattle.fq_pair.specs.Mates.{Mates}
-use Rattle.fq_pair.specs.Pairing.{Pairs, PairFront, Ended, Stopped, Met, pair_front}
-use Rattle.fq_pair.specs.Interleaved.{side_after, interleaved_front}
+use Rattle.fq_text.specs.Grammar.{Read, Front, End, Faulty, Found, front}
+use Rattle.fq_pair.specs.Mates.{Mates, mates_in}
+use Rattle.fq_pair.specs.Pairing.{belong, Stopped, Met, meeting, pair_front, Pairs, PairFront, Ended}
+use Rattle.fq_pair.specs.Interleaved.{meeting_after, interleaved_meeting, interleaved_front, side_after}
+use Rattle.fq_pair.specs.declared.fault.InputFault.TheVariants.{NamesDiffer}
+use Rattle.fq_pair.proofs.FrontLemmas.{front_more}
+use Rattle.std.proofs.lemmas.List.{append_cancel_right}
 use Rattle.fq_pair.specs.Forms.{TwoTexts, InterleavedText}
 use Rattle.fq_pair.specs.Walks.{Leads}
 use Rattle.fq_pair.proofs.PairLaws.{records_of, pairs_of-met}
 use Rattle.fq_pair.proofs.InterleavedLaws.{interleaved_pairs_of-met, interleaved_pairs_of-stopped, interleaved_pairs_of-ended}
 use Rattle.fq_run_core.proofs.FormLemmas.{pairs_at}
 use Rattle.fq_pair.proofs.TakenLemmas.{front_takes, front_fewer, one_record}
-use Rattle.fq_run_core.proofs.FrontLemmas.{met_more, interleaved_met_more, meets_interleaved}
+
+-- A pair at the beginning of lists of lines is still there if more lines follow.
+
+-- two records that make a pair
+record Meets (check : Bool) (m : Mates) (fs rs : List (List ℕ)) (forward reverse : Front) : Type 0
+  where
+    f : Read
+    r : Read
+    first : forward ≡ Found f fs
+    second : reverse ≡ Found r rs
+    together : belong check (mates_in f r) ≡ true
+    pair : mates_in f r ≡ m
+
+meets : (check : Bool) (n : ℕ) (m : Mates) (fs rs : List (List ℕ)) (forward reverse : Front) →
+    meeting check n forward reverse ≡ Met m fs rs → Meets check m fs rs forward reverse
+meets check n m fs rs (Found f gs) (Found r qs) is = grind (arith, common_steps)
+meets check n m fs rs End (Found r qs) is = absurd cc
+meets check n m fs rs _ _ is = absurd cc
+
+-- a pair at the beginning of two lists of lines is still there if more lines follow each
+pub met_more : (check : Bool) (e : Encoding) (n : ℕ) (m : Mates)
+    (forward reverse fs rs more more' : List (List ℕ)) →
+    pair_front check e n forward reverse ≡ Met m fs rs →
+    pair_front check e n (forward ++ more) (reverse ++ more') ≡ Met m (fs ++ more) (rs ++ more')
+met_more check e n m forward reverse fs rs more more' is =
+    let p = meets check (suc n) m fs rs (front e forward) (front e reverse) is in
+    ap (λ x. meeting check (suc n) x (front e (reverse ++ more')))
+    (front_more more e p.f fs forward p.first)
+    ∙ ap (meeting check (suc n) (Found p.f (fs ++ more)))
+    (front_more more' e p.r rs reverse p.second)
+    ∙ cond-true (belong check (mates_in p.f p.r))
+    (Met (mates_in p.f p.r) (fs ++ more) (rs ++ more')) (Stopped (NamesDiffer (suc n)))
+    p.together
+    ∙ ap (λ x. Met x (fs ++ more) (rs ++ more')) p.pair
+
+-- two records that make a pair, one after the other
+pub record MeetsInterleaved (check : Bool) (e : Encoding) (m : Mates) (fs rs : List (List ℕ))
+    (x : Front) : Type 0 where
+  -- the forward record
+  pub f : Read
+  -- the reverse record
+  pub r : Read
+  -- the lines after the forward record
+  pub ls : List (List ℕ)
+  pub first : x ≡ Found f ls
+  pub second : front e ls ≡ Found r fs
+  -- the lines after the pair are left to both sides
+  pub same : rs ≡ fs
+  pub together : belong check (mates_in f r) ≡ true
+  pub pair : mates_in f r ≡ m
+
+-- if a pair comes first in an interleaved text, so do the two records that make it
+pub meets_interleaved : (check : Bool) (e : Encoding) (n : ℕ) (m : Mates) (fs rs : List (List ℕ))
+    (x : Front) → interleaved_meeting check e n x ≡ Met m fs rs → MeetsInterleaved check e m fs rs x
+meets_interleaved check e n m fs rs End is = absurd cc
+meets_interleaved check e n m fs rs (Faulty x) is = absurd cc
+meets_interleaved check e n m fs rs (Found f ls) is = grind (arith, common_steps)
+
+-- a pair at the beginning of the lines of an interleaved text is still there if more follow
+pub interleaved_met_more : (check : Bool) (e : Encoding) (n : ℕ) (m : Mates)
+    (ls fs rs more : List (List ℕ)) → interleaved_front check e n ls ≡ Met m fs rs →
+    interleaved_front check e n (ls ++ more) ≡ Met m (fs ++ more) (rs ++ more)
+interleaved_met_more check e n m ls fs rs more is =
+    let p = meets_interleaved check e (suc n) m fs rs (front e ls) is in
+    ap (interleaved_meeting check e (suc n)) (front_more more e p.f p.ls ls p.first)
+    ∙ ap (meeting_after check (suc n) p.f) (front_more more e p.r fs p.ls p.second)
+    ∙ cond-true (belong check (mates_in p.f p.r)) (Met (mates_in p.f p.r) (fs ++ more) (fs ++ more))
+    (Stopped (NamesDiffer (suc n))) p.together
+    ∙ ap (λ x. Met x (fs ++ more) (fs ++ more)) p.pair
+    ∙ ap (λ xs. Met m (fs ++ more) (xs ++ more)) (sym p.same)
 
 module _ (check : Bool) (e : Encoding) where
   -- the pairs of the lines of two texts, after n pairs given
@@ -97,14 +169,11 @@ module _ (check : Bool) (e : Encoding) where
         let longer = interleaved_met_more check e n x ls fs rs more is in
         let both : Met x (fs ++ more) (rs ++ more) ≡ Met m gs qs = sym longer ∙ first in
         let f : gs ≡ fs ++ more = cc in
-        let F : List (List ℕ) → Type 0 = λ xs. Leads InterleavedText check e (suc n) ms xs qs ls'
-        same' in
-        let N : ℕ → Type 0 = λ k. InterleavedNone k ls' in
         let number : n + suc (length ms) ≡ suc n + length ms = omega arith in
-        let rest = then fs qs (subst F f p) (subst N number none) in
+        let rest = then fs qs (rw f at p)
+        (subst (λ (k : ℕ). InterleavedNone k ls') number none) in
         let h = ap (λ (q : Pairs). length q.mates)
-        (interleaved_pairs_of-met check e n x ls fs rs is) in
-        omega arith
+        (interleaved_pairs_of-met check e n x ls fs rs is) in omega arith
 
     -- `at_most` for one text: its first lines have at most as many pairs as `ms`
     pub interleaved_at_most : (n : ℕ) (ms : List Mates) (ls same ls' same' : List (List ℕ)) →

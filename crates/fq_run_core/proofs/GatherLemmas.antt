@@ -1,5 +1,5 @@
 -- A block that is being gathered.
-use Rattle.std.proofs.Common.{◌≡◌, ℕ, ◌+◌, ◌<◌, ◌≤◌, Bool, true, false, Option, Some, None, List, [], ◌∷◌, ◌++◌, length, refl, sym, ap, subst, ◌∙◌, arith}
+use Rattle.std.proofs.Common.{◌≡◌, ℕ, ◌+◌, ◌<◌, ◌≤◌, Bool, true, false, Option, Some, None, List, [], ◌∷◌, ◌++◌, length, refl, sym, ap, ◌∙◌, arith}
 use Rattle.std.specs.Option.{is_some}
 use Rattle.std.proofs.lemmas.List.{length-append}
 use Rattle.std.proofs.lemmas.Grind.{common_steps}
@@ -108,15 +108,8 @@ module _ (steps : List Step) (tally : Option Tally) where
       Gathered old now steps tally t done n → Walks now next (m ∷ []) → then ≡ done → u ≡ t →
       Gathers old next steps most tally u then (Some (reading.Memory refused))
   gathers_refused refused old now next t u done then n most m room g w same kept =
-      let P : Done → Type 0 =
-      λ d. Gathers old next steps most tally u d (Some (reading.Memory refused)) in
-      let Q : Option Tally → Type 0 =
-      λ x. Gathers old next steps most tally x done (Some (reading.Memory refused)) in
-      subst P (sym same) (subst Q (sym kept)
-      (gathers_stopped old now next t done n most (reading.Memory refused) room g (
-        m ∷ [],
-        walks_then old now next g.block (m ∷ []) g.walks w,
-      )))
+      rw (same, kept) (gathers_stopped old now next t done n most (reading.Memory refused) room g
+      (m ∷ [], walks_then old now next g.block (m ∷ []) g.walks w))
 
 -- equal steps and bounds may be exchanged
 pub gathers_as : {old new : SourceState} {steps steps' : List Step} {most most' : ℕ}

@@ -1,14 +1,10 @@
 pub mod OutletLemmas
 pub mod WalkLemmas
-pub mod TextLemmas
 pub mod TotalLemmas
 pub mod GatherLemmas
-pub mod BlockLemmas
 pub mod PassLemmas
 pub mod FormLemmas
-pub mod FrontLemmas
 pub mod CutLemmas
+pub mod NamesLemmas
 pub mod ReadingLemmas
-pub mod VerdictLemmas
-pub mod EndLemmas
 pub mod RunLemmas

@@ -1,26 +1,14 @@
 -- What outlets took, one text after another.
-use Rattle.std.proofs.Common.{◌≡◌, ℕ, Option, Some, None, Result, Err, List, [], ◌++◌, refl, arith}
-use Rattle.std.specs.Option.{IfSome}
+use Rattle.std.proofs.Common.{◌≡◌, ℕ, Option, Some, None, Result, Err, List, [], ◌++◌, ◌∙◌, ap, refl, arith}
+use Rattle.std.specs.Option.{IfSome, option_map}
 use Rattle.std.proofs.lemmas.Grind.{common_steps}
 use Rattle.fq_pair.specs.declared.out.Out.{Out}
 use Rattle.fq_pair.specs.declared.out.Out.TheVariants.{ForwardPaired, ForwardUnpaired, ReversePaired, ReverseUnpaired, Log}
 use Rattle.fq_pair.specs.Outputs.{Outputs}
 use Rattle.fq_text.specs.Devices.{OutletState}
-use Rattle.fq_run_core.specs.Devices.{OutletStates, AreHealthy, outlet_at, TookText, Took, OutletsTook}
+use Rattle.fq_run_core.specs.Devices.{OutletStates, AreHealthy, KeepFiles, outlet_at, TookText, Took, OutletsTook}
+use Rattle.fq_run_core.specs.Writing.{FlushesAfter}
 use Rattle.fq_run_core.specs.Sending.{BreaksAt, Sends, FailsIn}
-
--- nothing
-pub took_nothing : (o : OutletState) → TookText o o [] 0
-took_nothing o = grind (arith, common_steps)
-
--- an outlet that is as it was took nothing, and so did one that is left out
-pub took_none : (o : Option OutletState) → Took o o [] 0
-took_none None = refl
-took_none (Some o) = took_nothing o
-
--- outlets that are as they were took nothing, and none failed
-pub all_took_none : (o : OutletStates) → OutletsTook o o (λ out. []) None
-all_took_none o out = took_none (outlet_at out o)
 
 -- outlets that took one text and then another took the two joined
 pub all_took_then : (a b c : OutletStates) (s t : Out → List ℕ) (failed : Option Out) →
@@ -56,21 +44,39 @@ still_log : (a b : Option OutletState) (s : List ℕ) →
     IfSome a (λ (log : OutletState). log.failures ≡ 0) → Took a b s 0 →
     IfSome b (λ (log : OutletState). log.failures ≡ 0)
 still_log None None s sound p = tt
-still_log None (Some b) s sound p = absurd p
-still_log (Some a) None s sound p = absurd p
 still_log (Some a) (Some b) s sound p = still a b s sound p
+still_log _ _ s sound p = absurd p
 
 -- if no outlet had failed before a call, and none failed in it, none has failed
 pub still_healthy : (a b : OutletStates) (s : Out → List ℕ) → AreHealthy a →
     OutletsTook a b s None → AreHealthy b
 still_healthy a b s h p = record {
-  forward_paired = still a.forward_paired b.forward_paired (s ForwardPaired) h.forward_paired
-      (p ForwardPaired);
-  forward_unpaired = still a.forward_unpaired b.forward_unpaired (s ForwardUnpaired)
-      h.forward_unpaired (p ForwardUnpaired);
-  reverse_paired = still a.reverse_paired b.reverse_paired (s ReversePaired) h.reverse_paired
-      (p ReversePaired);
-  reverse_unpaired = still a.reverse_unpaired b.reverse_unpaired (s ReverseUnpaired)
-      h.reverse_unpaired (p ReverseUnpaired);
-  log = still_log a.log b.log (s Log) h.log (p Log);
+  forward_paired = still _ _ _ h.forward_paired (p ForwardPaired);
+  forward_unpaired = still _ _ _ h.forward_unpaired (p ForwardUnpaired);
+  reverse_paired = still _ _ _ h.reverse_paired (p ReversePaired);
+  reverse_unpaired = still _ _ _ h.reverse_unpaired (p ReverseUnpaired);
+  log = still_log _ _ _ h.log (p Log);
 }
+
+-- an outlet that took a text still writes the file that it wrote
+took_keeps : (a b : Option OutletState) (s : List ℕ) (failed : ℕ) → Took a b s failed →
+    option_map (λ o. o.file) b ≡ option_map (λ o. o.file) a
+took_keeps None None s failed p = refl
+took_keeps (Some a) (Some b) s failed p = ap Some p.told
+took_keeps _ _ s failed p = absurd p
+
+-- so do all outlets
+pub all_took_keep : (a b : OutletStates) (s : Out → List ℕ) (failed : Option Out) →
+    OutletsTook a b s failed → KeepFiles a b
+all_took_keep a b s failed p out = took_keeps (outlet_at out a) (outlet_at out b) _ _ (p out)
+
+-- and so on after more of it
+pub keep_then : (a b c : OutletStates) → KeepFiles a b → KeepFiles b c → KeepFiles a c
+keep_then a b c p q out = q out ∙ p out
+
+-- so it is after a flush
+pub flush_keeps : (failed : Option Out) (a b : OutletStates) (result : Option Out) →
+    FlushesAfter failed a b result → KeepFiles a b
+flush_keeps (Some failed) a b result p = λ out. ap (λ o. option_map (λ x. x.file) (outlet_at out o))
+    p.1
+flush_keeps None a b result p = all_took_keep a b (λ out. []) result p.0

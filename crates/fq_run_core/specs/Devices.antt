@@ -1,6 +1,6 @@
 -- Devices (feeds and outlets) as contracts see them, and what a run does with them.
 use Rattle.std.specs.Prelude.{◌≡◌, ℕ, ◌+◌, ◌-◌, nat_lt, ◌==◌, IsTrue, if◌then◌else◌}
-use Rattle.std.specs.Prelude.{Option, Some, None, IfSome, List, [], ◌++◌, length, take}
+use Rattle.std.specs.Prelude.{Option, Some, None, IfSome, IsSome, List, [], ◌++◌, length, take}
 use Rattle.std.specs.Option.{option_map}
 use Rattle.fq_text.specs.Devices.{FeedState, OutletState}
 use Rattle.fq_pair.specs.declared.out.Out.{Out}
@@ -64,8 +64,8 @@ outlet_at Log o = o.log
 
 -- an outlet took a text, and failed this number of times
 pub record TookText (old new : OutletState) (text : List ℕ) (failed : ℕ) : Type 0 where
-  pub told : new.tells ≡ old.tells
-  pub bytes : IsTrue old.tells → new.taken ≡ old.taken ++ text
+  pub told : new.file ≡ old.file
+  pub bytes : IsSome old.file → new.taken ≡ old.taken ++ text
   pub failures : new.failures ≡ old.failures + failed
 
 -- `TookText` for an outlet that may be left out
@@ -74,6 +74,11 @@ Took (Some old) (Some new) text failed = TookText old new text failed
 Took None None text failed = failed ≡ 0
 Took None (Some new) text failed = ⊥
 Took (Some old) None text failed = ⊥
+
+-- each outlet still writes the file that it wrote
+abbrev pub KeepFiles : OutletStates → OutletStates → Type 0
+KeepFiles old new = (out : Out) →
+    option_map (λ o. o.file) (outlet_at out new) ≡ option_map (λ o. o.file) (outlet_at out old)
 
 -- the place of an outlet in the order of writing
 abbrev pub place : Out → ℕ

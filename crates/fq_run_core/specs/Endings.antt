@@ -1,6 +1,8 @@
 -- What a run guarantees, however it ends.
-use Rattle.std.specs.Prelude.{◌≡◌, ◌≢◌, ℕ, ◌<◌, ◌≤◌, ◌⊎◌, Bool, true, false, ◌&&◌, IsTrue, Option, Some, None, IfSome, List, [], ◌++◌, length}
+use Rattle.std.specs.Prelude.{◌≡◌, ◌≢◌, ℕ, ◌<◌, ◌≤◌, ◌⊎◌, Bool, true, false, ◌&&◌, IsTrue, Option, Some, None, IfSome, IsSome, MatchOption, List, [], ◌++◌, length}
 use Rattle.std.specs.Option.{option_map}
+use Rattle.fq_text.specs.declared.encoding.Encoding.{Encoding}
+use Rattle.fq_text.specs.declared.memory.MemoryRefused.{MemoryRefused}
 use Rattle.fq_text.specs.Lines.{whole_part}
 use Rattle.fq_text.specs.Records.{records}
 use Rattle.fq_pair.specs.declared.out.Out.{Out}
@@ -8,10 +10,11 @@ use Rattle.fq_pair.specs.declared.side.Side.{Side}
 use Rattle.fq_pair.specs.declared.side.Side.TheVariants.{Forward, Reverse}
 use Rattle.fq_pair.specs.declared.counts.Counts.{Counts}
 use Rattle.fq_pair.specs.declared.fault.InputFault.{InputFault}
-use Rattle.fq_pair.specs.Mates.{Mates}
+use Rattle.fq_pair.specs.declared.fault.InputFault.TheVariants.{NamesDiffer}
+use Rattle.fq_pair.specs.Mates.{Mates, MateNames}
 use Rattle.fq_pair.specs.Pairing.{Pairs}
 use Rattle.fq_pair.specs.Interleaved.{side_after}
-use Rattle.fq_pair.specs.Forms.{Form, TwoTexts, InterleavedText, pairs_in}
+use Rattle.fq_pair.specs.Forms.{Form, TwoTexts, InterleavedText, pairs_in, names_of_pair}
 use Rattle.fq_pair.specs.Outputs.{texts_of, text_of, counts_of}
 use Rattle.fq_report_pairs.specs.declared.tally.Tally.{Tally}
 use Rattle.fq_report_pairs.specs.Results.{tally_if}
@@ -97,6 +100,19 @@ pub record IsTrimmed (c : Choices) (run : Run) : Type 0 where
   pub counts : run.counts ≡ counts_of c.steps (all_pairs c run).mates
   pub tally : run.tally ≡ tally_if c.tallied c.steps (all_pairs c run).mates
   pub outcome : run.outcome ≡ trimmed_outcome (all_pairs c run).fault
+
+-- if a run over these inputs ended because names differ, it returned those of the pair with the
+-- number in the outcome, or the witness that memory was refused
+abbrev pub AreItsNames : Form → Encoding → FeedState → FeedState → Outcome → Option MateNames →
+    Option MemoryRefused → Type 0
+AreItsNames form encoding forward reverse (outcome.Input (NamesDiffer k)) names refused =
+    MatchOption names (IsSome refused) (λ these. IsTrue forward.tells → IsTrue reverse.tells →
+    names_of_pair k form encoding forward.to_come reverse.to_come ≡ Some these)
+AreItsNames form encoding forward reverse _ names refused = Unit {0}
+
+-- names that a source has were returned, or the witness that memory was refused
+abbrev pub TellsNames : Option MateNames → Option MateNames → Option MemoryRefused → Type 0
+TellsNames held names refused = (names ≡ held) ⊎ ((names ≡ None) × IsSome refused)
 
 -- the run ended at the end of the input, or at a fault in it
 abbrev pub ends_whole : Outcome → Bool

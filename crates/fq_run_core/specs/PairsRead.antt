@@ -40,6 +40,7 @@ fresh_source form c forward reverse = record {
   given = 0;
   last = None;
   current = None;
+  names = None;
 }
 
 -- the state of the feed of a side

@@ -1,10 +1,10 @@
 -- How the blocks of a run are read and written.
-use Rattle.std.specs.Prelude.{◌≡◌, ◌≢◌, Bool, true, false, Option, Some, None, List, [], ◌++◌}
+use Rattle.std.specs.Prelude.{◌≡◌, ◌≢◌, Bool, true, false, Option, Some, None, Result, IfOk, List, [], ◌++◌}
 use Rattle.std.specs.Option.{option_or}
 use Rattle.fq_text.specs.declared.memory.MemoryRefused.{MemoryRefused}
 use Rattle.fq_pair.specs.declared.out.Out.{Out}
 use Rattle.fq_pair.specs.declared.fault.InputFault.{InputFault}
-use Rattle.fq_pair.specs.Mates.{Mates}
+use Rattle.fq_pair.specs.Mates.{Mates, MateNames}
 use Rattle.fq_pair.specs.Outputs.{texts_of, text_of, counts_of}
 use Rattle.fq_report_pairs.specs.Results.{tally_if}
 use Rattle.fq_run_core.specs.declared.halt.Halt.{Halt}
@@ -72,13 +72,16 @@ abbrev pub HasWritten :
 HasWritten c old new before after written =
     Passes c old new before after written.total no_halt written.why written.failed
 
--- `Passes` for a source that is made from these feeds
-pub record Runs (form : Form) (c : Choices) (f r f' r' : FeedState) (before after : OutletStates)
-    (counted : Total) (halt : Halt) (why : Option ReadingEnd) (broken : Option Out) : Type 0 where
+-- `Passes` for a source that is made from these feeds, and the names that it has at the end, unless
+-- memory for them was refused
+pub record Runs {E : Type 0} (form : Form) (c : Choices) (f r f' r' : FeedState)
+    (before after : OutletStates) (counted : Total) (halt : Halt) (why : Option ReadingEnd)
+    (broken : Option Out) (names : Result (Option MateNames) E) : Type 0 where
   pub new : SourceState
   pub passes : Passes c (fresh_source form c f r) new before after counted halt why broken
   pub forward : f' ≡ feed_in new.forward
   pub reverse : r' ≡ feed_in new.reverse
+  pub held : IfOk names (λ held. held ≡ new.names)
 
 -- if no write had failed, each outlet was flushed, up to the first whose flush failed, and all of
 -- them if none failed

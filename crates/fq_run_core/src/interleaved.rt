@@ -6,7 +6,7 @@ ghost use Rattle.fq_run_core.specs.Devices.{outlet_states, AreHealthy};
 ghost use Rattle.fq_run_core.specs.Writing.{Runs, no_halt};
 ghost use Rattle.fq_run_core.specs.Outcomes.{rank, is_unmatched};
 ghost use Rattle.fq_run_core.specs.declared.outcome.Outcome.TheVariants.{Memory};
-ghost use Rattle.fq_run_core.specs.Endings.{interleaved_run_of, AreTold, ends_whole, IsTrimmed, EveryEnding};
+ghost use Rattle.fq_run_core.specs.Endings.{interleaved_run_of, AreTold, ends_whole, IsTrimmed, AreItsNames, EveryEnding};
 
 use crate::ending::{MixedEnding, names_at};
 use crate::halt::Halt;
@@ -39,6 +39,8 @@ pub fn run_serial_mixed<F: Feed, O: Outlet>(
     ensures unended { result.unended ≡ None }
     ensures memory { result.outcome ≡ Memory → IsSome result.refused }
     ensures unmatched { IsSome result.unmatched → is_unmatched result.outcome ≡ true }
+    ensures names { AreItsNames InterleavedText settings.now.encoding (F.state feed) (F.state feed)
+        result.outcome result.unmatched result.refused }
     // At `Input` and `Finished` all pairs before the fault or the end of the input were trimmed.
     ensures whole { let run = interleaved_run_of F.state (outlet_states O.state)
         feed outlets.old outlets.new result in
@@ -56,7 +58,9 @@ pub fn run_serial_mixed<F: Feed, O: Outlet>(
     } = pass(alloc, settings, feed, outlets);
     let Written { total, why, failed } = written;
     let failed = outlets.flush_after(failed);
-    let outcome = Occurred::new(Halt::NONE, why, failed).outcome();
+    let occurred = Occurred::new(Halt::NONE, why, failed);
+    let outcome = occurred.outcome();
+    let (unmatched, refused) = names_at(outcome, unmatched, occurred.refused());
     let total = total.at_end(outcome);
     MixedEnding {
         outcome,
@@ -64,8 +68,8 @@ pub fn run_serial_mixed<F: Feed, O: Outlet>(
         tally: total.tally,
         feed: Some(feed),
         unended: None,
-        refused: Occurred::new(Halt::NONE, why, failed).refused(),
-        unmatched: names_at(outcome, unmatched),
+        refused,
+        unmatched,
     }
 }
 
@@ -81,18 +85,19 @@ fn pass<F: Feed, O: Outlet>(
     ensures { Runs InterleavedText settings.now (F.state feed) (F.state feed)
         (F.state result.feeds) (F.state result.feeds)
         (outlet_states O.state outlets.old) (outlet_states O.state outlets.new)
-        result.written.total no_halt result.written.why result.written.failed }
+        result.written.total no_halt result.written.why result.written.failed
+        result.unmatched }
 {
     match open_interleaved(alloc, settings, feed) {
         Ok(mut source) => Pass {
             written: write_blocks(alloc, settings, &mut source, outlets),
             // They are only for the reason, so a run doesn't fail for want of memory for them.
-            unmatched: source.unmatched_names(alloc).unwrap_or(None),
+            unmatched: source.unmatched_names(alloc),
             feeds: source.into_feed(),
         },
         Err((feed, refused)) => Pass {
             written: Written::nothing(Some(ReadingEnd::Memory(refused))),
-            unmatched: None,
+            unmatched: Ok(None),
             feeds: feed,
         },
     }

@@ -6,7 +6,7 @@ ghost use Rattle.fq_pair.specs.Forms.{TwoTexts};
 ghost use Rattle.fq_run_core.specs.Writing.{Runs, no_halt};
 ghost use Rattle.fq_run_core.specs.Outcomes.{rank, is_unmatched};
 ghost use Rattle.fq_run_core.specs.declared.outcome.Outcome.TheVariants.{Memory};
-ghost use Rattle.fq_run_core.specs.Endings.{run_of, AreTold, ends_whole, IsTrimmed, EveryEnding};
+ghost use Rattle.fq_run_core.specs.Endings.{run_of, AreTold, ends_whole, IsTrimmed, AreItsNames, EveryEnding};
 
 use crate::ending::{Ending, names_at};
 use crate::halt::Halt;
@@ -54,6 +54,8 @@ pub fn run_serial<F: Feed, G: Feed, O: Outlet>(
     ensures unended { result.unended ≡ None }
     ensures memory { result.outcome ≡ Memory → IsSome result.refused }
     ensures unmatched { IsSome result.unmatched → is_unmatched result.outcome ≡ true }
+    ensures names { AreItsNames TwoTexts settings.now.encoding (F.state forward) (G.state reverse)
+        result.outcome result.unmatched result.refused }
     // At `Input` and `Finished` all pairs before the fault or the end of the input were trimmed.
     ensures whole { let run = run_of F.state G.state (outlet_states O.state)
         forward reverse outlets.old outlets.new result in
@@ -71,7 +73,9 @@ pub fn run_serial<F: Feed, G: Feed, O: Outlet>(
     } = pass(alloc, settings, forward, reverse, outlets);
     let Written { total, why, failed } = written;
     let failed = outlets.flush_after(failed);
-    let outcome = Occurred::new(Halt::NONE, why, failed).outcome();
+    let occurred = Occurred::new(Halt::NONE, why, failed);
+    let outcome = occurred.outcome();
+    let (unmatched, refused) = names_at(outcome, unmatched, occurred.refused());
     let total = total.at_end(outcome);
     Ending {
         outcome,
@@ -80,8 +84,8 @@ pub fn run_serial<F: Feed, G: Feed, O: Outlet>(
         forward: Some(forward),
         reverse: Some(reverse),
         unended: None,
-        refused: Occurred::new(Halt::NONE, why, failed).refused(),
-        unmatched: names_at(outcome, unmatched),
+        refused,
+        unmatched,
     }
 }
 
@@ -99,18 +103,19 @@ fn pass<F: Feed, G: Feed, O: Outlet>(
     ensures { Runs TwoTexts settings.now (F.state forward) (G.state reverse)
         (F.state result.feeds.0) (G.state result.feeds.1)
         (outlet_states O.state outlets.old) (outlet_states O.state outlets.new)
-        result.written.total no_halt result.written.why result.written.failed }
+        result.written.total no_halt result.written.why result.written.failed
+        result.unmatched }
 {
     match open(alloc, settings, forward, reverse) {
         Ok(mut source) => Pass {
             written: write_blocks(alloc, settings, &mut source, outlets),
             // They are only for the reason, so a run doesn't fail for want of memory for them.
-            unmatched: source.unmatched_names(alloc).unwrap_or(None),
+            unmatched: source.unmatched_names(alloc),
             feeds: source.into_feeds(),
         },
         Err((forward, reverse, refused)) => Pass {
             written: Written::nothing(Some(ReadingEnd::Memory(refused))),
-            unmatched: None,
+            unmatched: Ok(None),
             feeds: (forward, reverse),
         },
     }

@@ -5,6 +5,7 @@ ghost use Rattle.std.specs.Prelude.{◌≡◌};
 use crate::reading_end::ReadingEnd;
 use crate::total::Total;
 use fq_pair::{Out, UnmatchedNames};
+use fq_text::OutOfMemory;
 
 /// What became of the pairs of a run.
 pub(crate) struct Written {
@@ -20,7 +21,7 @@ pub(crate) struct Written {
 pub(crate) struct Pass<T> {
     pub(crate) written: Written,
     /// The names of the mates at which reading stopped, if they don't match.
-    pub(crate) unmatched: Option<UnmatchedNames>,
+    pub(crate) unmatched: Result<Option<UnmatchedNames>, OutOfMemory>,
     pub(crate) feeds: T,
 }
 

@@ -74,10 +74,13 @@ impl Files for TroubledFiles<'_> {
     type Target = ScriptOutlet;
 
     ghost state = { λ _. record {
+      leads = λ name. name;
       tells = false;
+      looks = false;
       bytes = λ _. None;
       refuses = λ _ _. true;
       may_say = λ _ _. true;
+      writes = λ _ _. true;
       is_open = λ _. true;
       has_failed = λ _. true;
       is_unflushed = λ _. true;

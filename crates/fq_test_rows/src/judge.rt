@@ -10,7 +10,7 @@
 //!
 //! `do: judge` does so by the words of `way`. Answer: `whole`, whether the run ended whole.
 
-ghost use Rattle.std.specs.Prelude.{◌≡◌, false, [], IfSome};
+ghost use Rattle.std.specs.Prelude.{◌≡◌, None, false, [], IfSome};
 ghost use Rattle.fq_run.specs.Devices.{outlet_states, AreHealthy};
 
 use anyhow::{Result, bail};
@@ -95,7 +95,7 @@ struct FlushedOutlet {
 
 impl Outlet for FlushedOutlet {
     ghost state = { λ o.
-        record { tells = false; taken = []; failures = o.failures; is_flushed = o.is_flushed } };
+        record { file = None; taken = []; failures = o.failures; is_flushed = o.is_flushed } };
 
     fn write(&mut self, bytes: &[u8]) -> std::result::Result<usize, OutletFailed> {
         self.is_flushed = false;

@@ -1,6 +1,6 @@
 //! Threads that must see each other.
 
-ghost use Rattle.std.specs.Prelude.{◌≡◌, false, [], IfOk};
+ghost use Rattle.std.specs.Prelude.{◌≡◌, None, false, [], IfOk};
 ghost use Rattle.fq_run_core.specs.Devices.{outlet_states, AreHealthy};
 
 use super::frame::{
@@ -154,7 +154,7 @@ impl Feed for SeeingFeed {
 
 impl Outlet for SeeingOutlet {
     ghost state = { λ o. record {
-      tells = false;
+      file = None;
       taken = [];
       failures = o.failures;
       is_flushed = o.is_flushed;

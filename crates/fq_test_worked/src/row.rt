@@ -3,7 +3,7 @@
 //! A line that begins with `#` is a comment. Each other line is a key, `: ` and a text:
 //!
 //! - `let NAME: TEXT` gives a text a name, for the rest of the file.
-//! - `row: TEXT` says in plain words what the row is about.
+//! - `row: TEXT` begins a row, and says in plain words what it is about.
 //! - `from: TEXT` says where the row comes from, such as a report or a real file. Nobody reads it.
 //! - `each NAME: WORD WORD ..` runs the row once for each word, with that word as the text of the
 //!   name. `each NAME/NAME: WORD/WORD ..` does so with several names at once. If there are several
@@ -12,10 +12,11 @@
 //! - `= KEY: TEXT` is an expected answer, and `~ KEY: TEXT` an expected part of one.
 //! - Other lines are inputs of that function.
 //!
-//! Rows with the same keys may stand in a table. Its first line `| KEY | KEY |` has the keys, and
-//! each other one `| TEXT | TEXT |` is a row, with these texts and the other lines of the block. A
-//! key `<NAME>` gives the text that name, for its row. If no key is `row`, the line is its name.
-//! Spaces around a text don't count.
+//! The lines of a block before its first `row:` are part of each of its rows. Rows with the same
+//! keys may stand in a table. Its first line `| KEY | KEY |` has the keys, and each other one
+//! `| TEXT | TEXT |` is a row, with these texts and the lines that are part of each row. A key
+//! `<NAME>` gives the text that name, for its row. If no key is `row`, the line is its name. Spaces
+//! around a text don't count.
 
 use crate::names::{Names, decode};
 use anyhow::{Context, Result, bail};
@@ -71,14 +72,19 @@ impl<'a> Row<'a> {
         Ok(said)
     }
 
-    // Returns this row with the texts of a line of a table under the table's keys.
-    fn with_cells(&self, alloc: Global, keys: &'a str, case: &'a str) -> Result<Row<'a>> {
-        let mut row = Row {
-            name: case,
+    // Returns a row of this name that begins with the lines of this one.
+    fn named(&self, alloc: Global, name: &'a str) -> Result<Row<'a>> {
+        Ok(Row {
+            name,
             sweeps: Vec::from_slice(alloc, self.sweeps.as_slice())?,
             texts: Vec::new(alloc),
             lines: Vec::from_slice(alloc, self.lines.as_slice())?,
-        };
+        })
+    }
+
+    // Returns this row with the texts of a line of a table under the table's keys.
+    fn with_cells(&self, alloc: Global, keys: &'a str, case: &'a str) -> Result<Row<'a>> {
+        let mut row = self.named(alloc, case)?;
         let keys = cells_of(alloc, keys)?;
         let cells = cells_of(alloc, case)?;
         if keys.len() != cells.len() {
@@ -104,34 +110,43 @@ pub fn read_block<'a>(
     names: &mut Names<'a>,
     block: &'a str,
 ) -> Result<Vec<Row<'a>>> {
-    let mut row = Row {
+    let mut shared = Row {
         name: "",
         sweeps: Vec::new(alloc),
         texts: Vec::new(alloc),
         lines: Vec::new(alloc),
     };
+    let mut rows = Vec::new(alloc);
     let mut table = Vec::new(alloc);
     for line in block.lines() {
         if line.starts_with('|') {
             table.push(line)?;
+        } else if let Some(name) = line.strip_prefix("row: ") {
+            rows.push(shared.named(alloc, name)?)?;
         } else if !line.is_empty() && !line.starts_with('#') {
-            read_line(alloc, names, &mut row, line)?;
+            read_line(alloc, names, rows.last_mut().unwrap_or(&mut shared), line)?;
         }
     }
-    rows_of(alloc, row, table.as_slice())
-}
-
-// Returns the rows of a block that has these lines besides those of its table.
-fn rows_of<'a>(alloc: Global, row: Row<'a>, table: &[&'a str]) -> Result<Vec<Row<'a>>> {
-    let mut rows = Vec::new(alloc);
-    if let Some((keys, cases)) = table.split_first() {
-        for case in cases.iter() {
-            rows.push(row.with_cells(alloc, keys, case)?)?;
-        }
-    } else if !row.name.is_empty() || !row.lines.is_empty() {
-        rows.push(row)?;
+    put_cases(alloc, &mut rows, &shared, table.as_slice())?;
+    if rows.is_empty() && !shared.lines.is_empty() {
+        bail!("lines without a row: {block:?}");
     }
     Ok(rows)
+}
+
+// Appends the rows of a table, each of which begins with these lines.
+fn put_cases<'a>(
+    alloc: Global,
+    rows: &mut Vec<Row<'a>>,
+    shared: &Row<'a>,
+    table: &[&'a str],
+) -> Result<()> {
+    if let Some((keys, cases)) = table.split_first() {
+        for case in cases.iter() {
+            rows.push(shared.with_cells(alloc, keys, case)?)?;
+        }
+    }
+    Ok(())
 }
 
 // Splits a line of a table into its cells.
@@ -151,9 +166,7 @@ fn read_line<'a>(
     line: &'a str,
 ) -> Result<()> {
     let (key, text) = parts_of(line)?;
-    if key == "row" {
-        row.name = text;
-    } else if let Some(name) = key.strip_prefix("let ") {
+    if let Some(name) = key.strip_prefix("let ") {
         let text = decode(alloc, names, text)?;
         names.put(name, text)?;
     } else if let Some(name) = key.strip_prefix("each ") {

@@ -22,9 +22,8 @@ not_lf b = not (eqb b 10)
 -- a line before the first LF is the first piece
 pub pieces_line : (l ys : List ℕ) → list_all not_lf l ≡ true → pieces (l ++ 10 ∷ ys) ≡ l ∷ pieces ys
 pieces_line [] ys clean = refl
-pieces_line (x ∷ xs) ys clean = let parts = and_parts _ _ clean in
-    cond-false (eqb x 10) _ _ (not-true _ parts.0)
-    ∙ ap (before_first_piece x) (pieces_line xs ys parts.1)
+pieces_line (x ∷ xs) ys clean =
+    grind (arith, common_steps, and_parts, cond-false, not-true, pieces_line xs ys)
 
 -- bytes from 33 on hold neither line end
 base_high : (b : ℕ) → is_base b ≡ true → 33 ≤ b

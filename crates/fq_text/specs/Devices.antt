@@ -1,6 +1,6 @@
 -- Devices: as contracts see each of them, as the ones in memory are, and as those of the standard
 -- library are.
-use Rattle.std.specs.Prelude.{ℕ, List, Bool}
+use Rattle.std.specs.Prelude.{ℕ, List, Bool, Option}
 
 -- a feed: whether its bytes are known to the proof, those still to come, and how many read calls
 -- have failed
@@ -9,10 +9,11 @@ pub record FeedState : Type 0 where
   pub to_come : List ℕ
   pub failures : ℕ
 
--- an outlet: whether its bytes are known to the proof, those taken, oldest first, how many writes
--- and flushes have failed, and whether the last of them was a flush that succeeded
+-- an outlet: the number of the file that it writes, if its bytes are known to the proof, those taken,
+-- oldest first, how many writes and flushes have failed, and whether the last of them was a flush
+-- that succeeded
 pub record OutletState : Type 0 where
-  pub tells : Bool
+  pub file : Option ℕ
   pub taken : List ℕ
   pub failures : ℕ
   pub is_flushed : Bool

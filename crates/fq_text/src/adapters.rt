@@ -189,10 +189,10 @@ impl<W: Write> FromWrite<W> {
 }
 
 impl<W: Write> Outlet for FromWrite<W> {
-    ghost use Rattle.std.specs.Prelude.{false, []};
+    ghost use Rattle.std.specs.Prelude.{None, false, []};
 
     ghost state = { λ d.
-        record { tells = false; taken = []; failures = d.failures; is_flushed = d.is_flushed } };
+        record { file = None; taken = []; failures = d.failures; is_flushed = d.is_flushed } };
 
     fn write(&mut self, bytes: &[u8]) -> Result<usize, OutletFailed>
         requires { self.old.failures < u64.MAX }

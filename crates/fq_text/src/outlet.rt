@@ -1,6 +1,6 @@
 //! Where texts go: a device that takes bytes, and the sending of a whole text to it.
 
-ghost use Rattle.std.specs.Prelude.{◌≡◌, ◌≢◌, ◌+◌, ◌-◌, ◌<◌, ◌≤◌, min, true, [], ◌++◌, length, take, false, IsTrue, IsErr, IfOk, IfErr, OnOk, OnErr, is_ok, is_err, if◌then◌else◌};
+ghost use Rattle.std.specs.Prelude.{◌≡◌, ◌≢◌, ◌+◌, ◌-◌, ◌<◌, ◌≤◌, min, true, [], ◌++◌, length, take, false, Some, IsTrue, IsErr, IsSome, IfOk, IfErr, OnOk, OnErr, is_ok, is_err, if◌then◌else◌};
 ghost use Rattle.fq_text.specs.Devices.{OutletState};
 
 use std::alloc::Global;
@@ -14,13 +14,13 @@ pub struct OutletFailed;
 
 /// A device that takes bytes, such as a file that is written.
 ///
-/// The bytes of an outlet are known to the proof (`tells`), as those of memory are
+/// The bytes of an outlet are known to the proof (it has a `file`), as those of memory are
 /// ([`ScriptOutlet`]), or not, as those of a file ([`FromWrite`](crate::FromWrite)). This never
 /// changes. Promises about bytes hold for outlets whose bytes are known. Promises about counts hold
 /// for all outlets.
 pub trait Outlet {
-    /// What contracts see of the outlet: whether its bytes are known to the proof, those taken so
-    /// far, how many writes and flushes have failed, and whether the last of them was a flush that
+    /// What contracts see of the outlet: the number of the file that it writes, if its bytes are
+    /// known to the proof, those taken so far, how many writes and flushes have failed, and whether the last of them was a flush that
     /// succeeded.
     ghost state: { Self → OutletState };
 
@@ -32,23 +32,23 @@ pub trait Outlet {
         requires { (state self.old).failures < u64.MAX }
         ensures within { IfOk result (λ n. n ≤ length bytes.now) }
         ensures some { IfOk result (λ n. 0 < length bytes.now → 0 < n) }
-        ensures moved { IfOk result (λ n. IsTrue (state self.old).tells
+        ensures moved { IfOk result (λ n. IsSome (state self.old).file
             → (state self.new).taken ≡ (state self.old).taken ++ take n bytes.now) }
-        ensures err { OnErr result (IsTrue (state self.old).tells
+        ensures err { OnErr result (IsSome (state self.old).file
             → (state self.new).taken ≡ (state self.old).taken) }
         ensures failures { (state self.new).failures
             ≡ (state self.old).failures + (if is_ok result then 0 else 1) }
-        ensures told { (state self.new).tells ≡ (state self.old).tells }
+        ensures told { (state self.new).file ≡ (state self.old).file }
         ensures unflushed { (state self.new).is_flushed ≡ false };
 
     /// Passes on what was taken, as to a disk. It takes nothing. A failure is counted.
     fn flush(&mut self) -> Result<(), OutletFailed>
         requires { (state self.old).failures < u64.MAX }
-        ensures kept { IsTrue (state self.old).tells
+        ensures kept { IsSome (state self.old).file
             → (state self.new).taken ≡ (state self.old).taken }
         ensures failures { (state self.new).failures
             ≡ (state self.old).failures + (if is_ok result then 0 else 1) }
-        ensures told { (state self.new).tells ≡ (state self.old).tells }
+        ensures told { (state self.new).file ≡ (state self.old).file }
         ensures flushed { (state self.new).is_flushed ≡ is_ok result };
 
     /// How many writes and flushes have failed so far.
@@ -137,7 +137,7 @@ impl ScriptOutlet {
 
 impl Outlet for ScriptOutlet {
     ghost state = { λ o. record {
-      tells = true;
+      file = Some 0;
       taken = o.bytes;
       failures = o.failures;
       is_flushed = o.is_flushed;
@@ -215,14 +215,14 @@ pub struct Sent {
 /// once in this call.
 pub fn send<O: Outlet>(outlet: &mut O, bytes: &[u8]) -> Result<(), Sent>
     requires { (O.state outlet.old).failures < u64.MAX }
-    ensures ok { OnOk result (IsTrue (O.state outlet.old).tells
+    ensures ok { OnOk result (IsSome (O.state outlet.old).file
         → (O.state outlet.new).taken ≡ (O.state outlet.old).taken ++ bytes.now) }
     ensures short { IfErr result (λ sent. sent.count < length bytes.now) }
-    ensures err { IfErr result (λ sent. IsTrue (O.state outlet.old).tells
+    ensures err { IfErr result (λ sent. IsSome (O.state outlet.old).file
         → (O.state outlet.new).taken ≡ (O.state outlet.old).taken ++ take sent.count bytes.now) }
     ensures failures { (O.state outlet.new).failures
         ≡ (O.state outlet.old).failures + (if is_ok result then 0 else 1) }
-    ensures told { (O.state outlet.new).tells ≡ (O.state outlet.old).tells }
+    ensures told { (O.state outlet.new).file ≡ (O.state outlet.old).file }
     ensures empty { bytes.now ≡ [] → outlet.new ≡ outlet.old }
 {
     let mut sent = 0;

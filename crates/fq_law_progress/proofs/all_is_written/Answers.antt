@@ -49,24 +49,16 @@ record IsSound (p : Run) (s : State) : Type 0 where
   pub written : Written p s.caller s.written
 
 sound_start : (p : Run) → IsSound p start
-sound_start p = record {
-  calm = λ i h. record { doing = refl; replies = refl; empty = λ e. refl };
-  begun = inl refl;
-  dealt = omega arith;
-  written = tt;
-}
+sound_start p = grind (arith, common_steps)
 
 -- one seat changes
 calm_all : (p : Run) (j : ℕ) (q : Seat) (seats : ℕ → Seat) →
     ((i : ℕ) → i < p.workers → IsCalm (seats i)) → (IsCalm (seats j) → IsCalm q) → (i : ℕ) →
     i < p.workers → IsCalm (changed j q seats i)
-calm_all p j q seats all here = changed_each (λ i seat. i < p.workers → IsCalm seat) j q seats
-    (λ h. here (all j h)) (λ i other. all i)
+calm_all p j q seats all here = grind (arith, common_steps, changed_each)
 
 no_stop_after : (rs : List Reply) → has_stop rs ≡ false → has_stop (drop 1 rs) ≡ false
-no_stop_after [] e = refl
-no_stop_after (texts ∷ rs) e = e
-no_stop_after (stop ∷ rs) e = cc
+no_stop_after rs e = grind (arith, common_steps)
 
 no_stop_more : (rs : List Reply) → has_stop rs ≡ false → has_stop (rs ++ texts ∷ []) ≡ false
 no_stop_more [] e = refl
@@ -74,37 +66,21 @@ no_stop_more (texts ∷ rs) e = no_stop_more rs e
 no_stop_more (stop ∷ rs) e = cc
 
 calm_taken : (q : Seat) → IsCalm q → IsCalm (with_reply_taken q)
-calm_taken q c = record {
-  doing = c.doing;
-  replies = no_stop_after q.replies c.replies;
-  empty =
-      c.empty;
-}
+calm_taken q c = grind (arith, common_steps, no_stop_after)
 
 calm_marked : (q : Seat) → IsCalm q → IsCalm (record q { marked = true })
 calm_marked q c = record { doing = c.doing; replies = c.replies; empty = c.empty }
 
 calm_answered : (q : Seat) (r : Reply) → q.doing ≡ answers r → IsCalm q → IsCalm (with_reply q r)
-calm_answered q texts e c = record {
-  doing = refl;
-  replies =
-      no_stop_more q.replies c.replies;
-  empty = λ x. cc;
-}
-calm_answered q stop e c = absurd (let a = ap is_calm e in let b = c.doing in cc)
+calm_answered q r e c = grind (arith, common_steps, no_stop_more)
 
 not_next : (rs : List Reply) → has_stop rs ≡ false → next_reply rs ≡ Some stop → ⊥
-not_next [] e h = cc
-not_next (texts ∷ rs) e h = cc
-not_next (stop ∷ rs) e h = cc
+not_next rs e h = grind (arith, common_steps)
 
 -- a lane of blocks is closed only once all were dealt
 all_dealt : (p : Run) (d : Dealer) (dealt i : ℕ) → Dealt p d dealt → i < closed_lanes d →
     dealt ≡ p.blocks
-all_dealt p awaits_start dealt i h within = absurd (omega (arith, within))
-all_dealt p deals dealt i h within = absurd (omega (arith, within))
-all_dealt p passes_start dealt i h within = absurd (omega (arith, within))
-all_dealt p (closes k) dealt i h within = h
+all_dealt p d dealt i h within = grind (arith, common_steps)
 
 -- at the mark in turn all blocks were written
 written_at_mark : (p : Run) (s : State) → IsRun p → IsKept p s → IsSound p s → May p s find_mark →
@@ -115,135 +91,44 @@ written_at_mark p s run kept sound may =
 -- the same caller and dealer, and one seat changed
 sound_at : (p : Run) (s : State) (j : ℕ) (q : Seat) → IsSound p s →
     (IsCalm (s.seats j) → IsCalm q) → IsSound p (record s { seats = changed j q s.seats })
-sound_at p s j q sound here = record {
-  calm = calm_all p j q s.seats sound.calm here;
-  begun =
-      sound.begun;
-  dealt = sound.dealt;
-  written = sound.written;
-}
+sound_at p s j q sound here = grind (arith, common_steps, calm_all)
 
 -- the start was put, where the caller isn't at its beginning
 item_put : (s : State) (c : Caller) → s.caller ≡ c → (c ≡ begins → ⊥) →
     (s.caller ≡ begins) ⊎ (s.start_item ≡ true) → s.start_item ≡ true
-item_put s c e other (inl h) = absurd (other (sym e ∙ h))
-item_put s c e other (inr h) = h
+item_put s c e other begun = grind (arith, common_steps)
 
 stays_sound : (p : Run) (s : State) (m : Move) → IsRun p → p.started ≡ p.workers → IsKept p s →
     IsSound p s → May p s m → is_failure m ≡ false → IsSound p (after p s m)
-stays_sound p s put_start run all kept sound may safe =
-    record { calm = sound.calm; begun = inr refl; dealt = sound.dealt; written = tt }
+stays_sound p s put_start run all kept sound may safe = grind (arith, common_steps)
 stays_sound p s give_up run all kept sound may safe = absurd (omega (arith, may.1, all))
-stays_sound p s close_start run all kept sound may safe =
-    record {
-      calm = sound.calm;
-      begun = inr (item_put s closes_start may (λ e. cc) sound.begun);
-      dealt = sound.dealt;
-      written = tt;
-    }
-stays_sound p s write run all kept sound may safe = record {
-  calm = calm_all p s.turn (with_reply_taken (s.seats s.turn)) s.seats sound.calm
-      (calm_taken (s.seats s.turn));
-  begun = sound.begun;
-  dealt = sound.dealt;
-  written = subst (λ c. Written p c (suc s.written)) (sym may.0) tt;
-}
+stays_sound p s close_start run all kept sound may safe = grind (arith, common_steps, item_put)
+stays_sound p s write run all kept sound may safe =
+    grind (arith, common_steps, calm_all, calm_taken)
 stays_sound p s fail_to_write run all kept sound may safe = absurd cc
-stays_sound p s hear_stop run all kept sound may safe =
-    absurd (not_next (s.seats s.turn).replies (sound.calm s.turn may.1).replies may.2)
-stays_sound p s find_mark run all kept sound may safe = record {
-  calm = calm_all p s.turn (record (s.seats s.turn) { marked = true }) s.seats sound.calm
-      (calm_marked (s.seats s.turn));
-  begun = inr (item_put s writes may.0 (λ e. cc) sound.begun);
-  dealt = sound.dealt;
-  written = written_at_mark p s run kept sound may;
-}
+stays_sound p s hear_stop run all kept sound may safe = grind (arith, common_steps, not_next)
+stays_sound p s find_mark run all kept sound may safe =
+    grind (arith, common_steps, calm_all, calm_marked, item_put, written_at_mark)
 stays_sound p s (drop_reply j) run all kept sound may safe =
     sound_at p s j (with_reply_taken (s.seats j)) sound (calm_taken (s.seats j))
 stays_sound p s (drop_mark j) run all kept sound may safe =
     sound_at p s j (record (s.seats j) { marked = true }) sound (calm_marked (s.seats j))
-stays_sound p s end_drain run all kept sound may safe =
-    record {
-      calm = sound.calm;
-      begun = inr (item_put s drains may.0 (λ e. cc) sound.begun);
-      dealt =
-          sound.dealt;
-      written = subst (λ c. Written p c s.written) may.0 sound.written;
-    }
-stays_sound p s join_dealer run all kept sound may safe =
-    record {
-      calm = sound.calm;
-      begun = inr (item_put s awaits_dealer may.0 (λ e. cc) sound.begun);
-      dealt = sound.dealt;
-      written = subst (λ c. Written p c s.written) may.0 sound.written;
-    }
-stays_sound p s (join_worker k) run all kept sound may safe =
-    record {
-      calm = sound.calm;
-      begun =
-          inr (item_put s (awaits_workers k) may.0 (λ e. cc) sound.begun);
-      dealt = sound.dealt;
-      written =
-          subst (λ c. Written p c s.written) may.0 sound.written;
-    }
-stays_sound p s take_start run all kept sound may safe =
-    record {
-      calm = sound.calm;
-      begun = sound.begun;
-      dealt =
-          subst (λ d. Dealt p d s.dealt) may.0 sound.dealt;
-      written = sound.written;
-    }
-stays_sound p s find_no_start run all kept sound may safe =
-    grind (arith, common_steps, Phase)
-stays_sound p s deal run all kept sound may safe = record {
-  calm = calm_all p s.deal_turn (with_block (s.seats s.deal_turn)) s.seats sound.calm
-      (λ c. record {
-        doing = c.doing;
-        replies = c.replies;
-        empty =
-            λ e. absurd (let h = (kept.marks s.deal_turn may.2).over e in
-            omega (arith, h, ap closed_lanes may.0));
-      });
-  begun = sound.begun;
-  dealt = subst (λ d. Dealt p d (suc s.dealt)) (sym may.0) (omega (arith, may.1));
-  written = sound.written;
-}
-stays_sound p s end_reading run all kept sound may safe =
-    record {
-      calm = sound.calm;
-      begun = sound.begun;
-      dealt =
-          (let h : s.dealt ≤ p.blocks = subst (λ d. Dealt p d s.dealt) may.0 sound.dealt in
-          omega (arith, h, may.1));
-      written = sound.written;
-    }
-stays_sound p s pass_start run all kept sound may safe =
-    record {
-      calm = sound.calm;
-      begun = sound.begun;
-      dealt =
-          subst (λ d. Dealt p d s.dealt) may.0 sound.dealt;
-      written = sound.written;
-    }
-stays_sound p s (close_blocks k) run all kept sound may safe =
-    record {
-      calm = sound.calm;
-      begun = sound.begun;
-      dealt =
-          subst (λ d. Dealt p d s.dealt) may.0 sound.dealt;
-      written = sound.written;
-    }
+stays_sound p s end_drain run all kept sound may safe = grind (arith, common_steps, item_put)
+stays_sound p s join_dealer run all kept sound may safe = grind (arith, common_steps, item_put)
+stays_sound p s (join_worker k) run all kept sound may safe = grind (arith, common_steps, item_put)
+stays_sound p s take_start run all kept sound may safe = grind (arith, common_steps)
+stays_sound p s find_no_start run all kept sound may safe = grind (arith, common_steps, Phase)
+stays_sound p s deal run all kept sound may safe = grind (arith, common_steps, calm_all)
+stays_sound p s end_reading run all kept sound may safe = grind (arith, common_steps)
+stays_sound p s pass_start run all kept sound may safe = grind (arith, common_steps)
+stays_sound p s (close_blocks k) run all kept sound may safe = grind (arith, common_steps)
 stays_sound p s (take_block j texts) run all kept sound may safe =
     grind (arith, common_steps, sound_at)
 stays_sound p s (take_block j stop) run all kept sound may safe = absurd cc
 stays_sound p s (put_reply j r) run all kept sound may safe =
     sound_at p s j (with_reply (s.seats j) r) sound (calm_answered (s.seats j) r may.1)
-stays_sound p s (empty_block j) run all kept sound may safe =
-    sound_at p s j (with_block_taken (s.seats j) empties) sound (λ c. absurd (let a =
-    ap is_calm may.1 in let b = c.doing in cc))
-stays_sound p s (leave j) run all kept sound may safe =
-    grind (arith, common_steps, sound_at)
+stays_sound p s (empty_block j) run all kept sound may safe = grind (arith, common_steps, sound_at)
+stays_sound p s (leave j) run all kept sound may safe = grind (arith, common_steps, sound_at)
 
 -- The end of a run.
 

@@ -11,8 +11,7 @@ use Rattle.std.proofs.lemmas.Grind.{common_steps}
 
 -- two numbers in order
 order : (a b : ℕ) → (a < b) ⊎ (b ≤ a)
-order a b = ⊎_elim (λ e. inr (omega (arith, e))) (⊎_elim (λ h. inl h) (λ h. inr (omega (arith, h))))
-    (cases_order a b)
+order a b = grind (arith, common_steps, cases_order)
 
 -- What a worker waits for, if it has no move.
 data Waiting (p : Run) (s : State) (j : ℕ) : Type 0 where
@@ -69,8 +68,7 @@ dealer : (p : Run) (s : State) → s.start_mark ≡ true → s.deal_turn < p.wor
 dealer p s mark within = dealer_by p s mark within s.dealer refl
 
 idle_hand : (d : Doing) → (d ≡ takes) ⊎ (d ≡ empties) → in_hand d ≡ 0
-idle_hand d (inl e) = ap in_hand e
-idle_hand d (inr e) = ap in_hand e
+idle_hand d e = grind (arith, common_steps, in_hand)
 
 -- While the dealer waits for room, the worker in turn doesn't wait for a block.
 starves : (p : Run) (s : State) → IsRun p → IsKept p s → s.turn < p.workers → Phase p s writes →
@@ -211,8 +209,7 @@ by_caller p s run kept writes e ph =
     let there : s.deal_turn < p.workers = rw kept.deal_turn
     (turn_below p.workers s.dealt run.some_workers) in
     inr (writes_on p s run kept e here there ph (s.seats s.turn).replies refl)
-by_caller p s run kept drains e ph =
-    grind (arith, common_steps, turn_below, drains_on)
+by_caller p s run kept drains e ph = grind (arith, common_steps, turn_below, drains_on)
 by_caller p s run kept awaits_dealer e ph = inr (joins_dealer p s kept e ph)
 by_caller p s run kept (awaits_workers k) e ph = joins_workers p s k run e ph
 
@@ -225,8 +222,7 @@ kept_all p s (m ∷ ms) run kept are = kept_all p (after p s m) ms run (keeps p 
 
 -- every state that a run can reach is its end, or some thread has a move
 never_stuck : NeverStuck
-never_stuck p moves run are =
-    grind (arith, common_steps, kept_all, kept_start, by_caller)
+never_stuck p moves run are = grind (arith, common_steps, kept_all, kept_start, by_caller)
 
 -- every state that a run can reach is its end, or some thread has a move
 pub returns : goal.returns

@@ -1,35 +1,103 @@
 -- How a collector changes when it takes a reply.
-use Rattle.std.proofs.Common.{◌≡◌, ℕ, suc, ◌<◌, ◌%◌, Some, None, is_some, List, [], ◌∷◌, ◌++◌, length, map, refl, sym, ap, ◌∙◌, arith, subst, append_assoc, Bool}
-use Rattle.std.proofs.lemmas.Nat.{mod_below}
-use Rattle.std.proofs.lemmas.List.{append-nil, length-map, map-append}
+use Rattle.std.proofs.Common.{◌≡◌, ℕ, zero, suc, ◌<◌, Bool, false, ◌||◌, None, List, [], ◌∷◌, ◌++◌, length, get_or, refl, sym, ap, ◌∙◌, arith, ◌%◌, Some, is_some, map, subst}
+use Rattle.std.proofs.Math.Bool.{or-false, or-true}
+use Rattle.std.proofs.Math.ListN.{set}
+use Rattle.std.specs.List.{list_any}
 use Rattle.std.proofs.lemmas.Grind.{common_steps}
 use Rattle.fq_lane.specs.History.{History}
 use Rattle.fq_lane.specs.declared.taken.Taken.{Taken}
-use Rattle.fq_lane.specs.declared.taken.Taken.TheVariants.{Item, Closed}
+use Rattle.fq_lane.specs.declared.taken.Taken.TheVariants.{Item, Empty, Closed}
+use Rattle.fq_work.specs.declared.reply.Cause.{Cause}
+use Rattle.fq_work.specs.declared.reply.Cause.TheVariants.{Gate, Memory}
+use Rattle.fq_work.specs.declared.reply.Reply.{Reply}
+use Rattle.fq_work.specs.declared.reply.Reply.TheVariants.{Done as done, Stop}
+use Rattle.fq_run.specs.lanes.Items.{IsDealt, IsBegun}
+use Rattle.fq_run.specs.collector.Stops.{witness, heard_at, is_stop, has_come, refused_if, stops_of, with_stop, Drains}
+use Rattle.fq_run_core.specs.declared.halt.Halt.{Halt}
+use Rattle.fq_run.proofs.lanes.LaneLemmas.{TakesAt, dealt_item, at_mark_closed, at_mark_takes, begun_takes, takes_length, takes_names}
+use Rattle.std.proofs.lemmas.Nat.{mod_below}
+use Rattle.std.proofs.lemmas.List.{append-nil, length-map, map-append}
 use Rattle.fq_pair.specs.declared.out.Out.{Out}
 use Rattle.fq_run_core.specs.declared.total.Total.{Total}
 use Rattle.fq_run_core.specs.Totals.{no_total, total_plus}
 use Rattle.fq_pair.specs.Outputs.{text_of}
 use Rattle.fq_report_pairs.specs.declared.done.Done.{Done}
-use Rattle.fq_work.specs.declared.reply.Cause.{Cause}
-use Rattle.fq_work.specs.declared.reply.Cause.TheVariants as cause
-use Rattle.fq_work.specs.declared.reply.Reply.{Reply}
-use Rattle.fq_work.specs.declared.reply.Reply.TheVariants.{Done as done, Stop}
 use Rattle.fq_run_core.specs.Devices.{OutletStates, AreHealthy, OutletsTook, part_at}
 use Rattle.fq_run_core.specs.Sending.{BreaksAt}
-use Rattle.fq_run.specs.Shares.{gather}
-use Rattle.fq_run.specs.lanes.Items.{lists_of, IsDealt, IsBegun}
-use Rattle.fq_run.specs.collector.Collecting.{written_text, counted_from, counted, before_stop, TookAll, IsHeard, HasStopped, HasBroken, Writes, failed_in, Collects}
-use Rattle.fq_run.specs.collector.Stops.{with_stop, stops_of, Drains}
+use Rattle.fq_run.specs.collector.Collecting.{written_text, counted_from, counted, TookAll, IsHeard, HasStopped, HasBroken, Writes, Collects}
 use Rattle.fq_run.specs.declared.collector.Collector.{Collector}
-use Rattle.fq_run_core.specs.declared.halt.Halt.{Halt}
 use Rattle.fq_run.specs.declared.collector.phase.Phase.{Phase}
 use Rattle.fq_run.specs.declared.collector.phase.Phase.TheVariants.{Writing, AtMark, Stopped, WriteFailed}
 use Rattle.fq_run.proofs.DealLemmas.{turn_more}
-use Rattle.fq_run.proofs.lanes.LaneLemmas.{TakesAt, dealt_item, at_mark_closed, at_mark_takes, begun_takes, takes_length, takes_names}
 use Rattle.fq_run_core.proofs.OutletLemmas.{all_took_then, all_took_same, still_healthy}
-use Rattle.fq_run.proofs.collector.StopLemmas.{heard_at, stops_taken}
-use Rattle.fq_run.proofs.collector.TurnLemmas.{begun_gather, at_mark_gather}
+use Rattle.fq_work.specs.declared.reply.Cause.TheVariants as cause
+
+-- How the stops that came change when a lane changes.
+
+-- one more reply in one lane
+come_more : (why : Cause) (ls : List (History Reply)) (j : ℕ) (l : History Reply) (x : Reply) →
+    j < length ls → l.items ≡ (get_or ls j l).items ++ x ∷ [] →
+    has_come why (set ls j l) ≡ (has_come why ls || is_stop why x)
+come_more why [] j l x lt e = absurd (omega arith)
+come_more why (k ∷ ls) zero l x lt e = grind (arith, common_steps)
+come_more why (k ∷ ls) (suc j) l x lt e = grind (arith, common_steps, come_more why ls j l x)
+
+-- nothing more in one lane
+come_same : (why : Cause) (ls : List (History Reply)) (j : ℕ) (l : History Reply) →
+    l.items ≡ (get_or ls j l).items → has_come why (set ls j l) ≡ has_come why ls
+come_same why [] j l e = refl
+come_same why (k ∷ ls) zero l e = ap (λ is. list_any (is_stop why) is || has_come why ls) e
+come_same why (k ∷ ls) (suc j) l e = grind (arith, common_steps, come_same why ls j l e)
+
+same_halt : (a b c d : Bool) → a ≡ c → b ≡ d →
+    (let x : Halt = record { gate = a; memory = refused_if b } in let y : Halt =
+    record { gate = c; memory = refused_if d } in x ≡ y)
+same_halt a b c d p q = ap (λ g. let x : Halt = record { gate = g; memory = refused_if b } in x) p
+    ∙ ap (λ m. let x : Halt = record { gate = c; memory = refused_if m } in x) q
+
+-- what has come, with a reply that was taken
+come_taken : (x : Reply) (old new : List (History Reply)) (j : ℕ) → j < length old →
+    TakesAt (Item x) old new j → (why : Cause) →
+    has_come why new ≡ (has_come why old || is_stop why x)
+come_taken x old new j lt t why = ap (has_come why) t.becomes
+    ∙ come_more why old j t.history x lt (ap (λ (l : History Reply). l.items) t.takes.1)
+
+-- a take adds its stop, if it got one, to those that came
+pub stops_taken : (r : Taken Reply) (old new : List (History Reply)) (j : ℕ) → j < length old →
+    TakesAt r old new j → stops_of new ≡ heard_at r (stops_of old)
+stops_taken (Item (Stop Gate)) old new j lt t =
+    let more = come_taken _ old new j lt t in
+    same_halt _ _ _ _ (more Gate ∙ or-true (has_come Gate old)) (more (Memory witness)
+    ∙ or-false (has_come (Memory witness) old))
+stops_taken (Item (Stop (Memory refused))) old new j lt t =
+    let more = come_taken _ old new j lt t in
+    same_halt _ _ _ _ (more Gate ∙ or-false (has_come Gate old)) (more (Memory witness)
+    ∙ or-true (has_come (Memory witness) old))
+stops_taken (Item (done d)) old new j lt t =
+    let more = come_taken _ old new j lt t in
+    same_halt _ _ _ _ (more Gate ∙ or-false (has_come Gate old)) (more (Memory witness)
+    ∙ or-false (has_come (Memory witness) old))
+stops_taken Empty old new j lt t = grind (arith, common_steps)
+stops_taken Closed old new j lt t =
+    let same = λ (why : Cause). ap (has_come why) t.becomes
+    ∙ come_same why old j t.history (ap (λ (l : History Reply). l.items) t.takes) in
+    same_halt _ _ _ _ (same Gate) (same (Memory witness))
+
+-- nothing came yet
+none_come : (why : Cause) (ls : List (History Reply)) →
+    ((j : ℕ) (d : History Reply) → j < length ls → (get_or ls j d).items ≡ []) →
+    has_come why ls ≡ false
+none_come why [] h = refl
+none_come why (l ∷ ls) h =
+    ap (λ is. list_any (is_stop why) is || has_come why ls) (h 0 l (omega arith))
+    ∙ none_come why ls (λ j d lt. h (suc j) d (omega arith))
+
+-- no stop came through lanes that have carried nothing
+pub no_stops : (ls : List (History Reply)) → IsDealt (length ls) [] ls →
+    stops_of ls ≡ record { gate = false; memory = None }
+no_stops ls h =
+    same_halt _ _ _ _ (none_come Gate ls (λ j d lt. h.items j d lt))
+    (none_come (Memory witness) ls (λ j d lt. h.items j d lt))
 
 -- One more reply.
 
@@ -49,33 +117,6 @@ pub counted_more : (tallied : Bool) (ds : List Done) (d : Done) →
     counted tallied (ds ++ d ∷ []) ≡ total_plus (counted tallied ds) d
 counted_more tallied ds d = counted_from_more (no_total tallied) ds d
 
--- The replies before the first Stop.
-
-before_none : (ds : List Done) → before_stop (map done ds) ≡ ds
-before_none [] = refl
-before_none (d ∷ ds) = ap (λ es. d ∷ es) (before_none ds)
-
-before_one : (ds : List Done) (why : Cause) (rest : List Reply) →
-    before_stop ((map done ds ++ Stop why ∷ []) ++ rest) ≡ ds
-before_one [] why rest = refl
-before_one (d ∷ ds) why rest = ap (λ es. d ∷ es) (before_one ds why rest)
-
--- if no write failed, what was written is what came, gathered in turn, before the first Stop
-pub written_gathers : (w : ℕ) (p : Phase) (before now : OutletStates) (ds : List Done)
-    (k : Collector) → 0 < w → (p ≡ Writing → ⊥) → failed_in p ≡ None → Writes p w before now ds k →
-    TookAll before now (before_stop (gather (lists_of k.replies.items)))
-written_gathers w Writing before now ds k pos over none h = absurd (over refl)
-written_gathers w AtMark before now ds k pos over none h =
-    let e : before_stop (gather (lists_of k.replies.items)) ≡ ds =
-    ap before_stop (at_mark_gather w (map done ds) k.replies.items pos h.0) ∙ before_none ds in
-    subst (λ es. TookAll before now es) (sym e) h.1
-written_gathers w Stopped before now ds k pos over none h =
-    let p = begun_gather w (map done ds ++ Stop h.why ∷ []) k.replies.items pos h.begun in
-    let e : before_stop (gather (lists_of k.replies.items)) ≡ ds = ap before_stop (sym p.1)
-    ∙ before_one ds h.why p.0 in
-    subst (λ es. TookAll before now es) (sym e) h.took
-written_gathers w (WriteFailed failed) before now ds k pos over none h = absurd cc
-
 -- Stops.
 
 is_heard : (why : Cause) (k : Collector) (halt : Halt) → k.halt ≡ with_stop why halt → IsHeard why k
@@ -85,9 +126,6 @@ is_heard (cause.Memory refused) k halt e = ap (λ (h : Halt). is_some h.memory) 
 still_heard : (why : Cause) (r : Taken Reply) (k l : Collector) → l.halt ≡ heard_at r k.halt →
     IsHeard why k → IsHeard why l
 still_heard cause.Gate (Item (Stop cause.Gate)) k l e h = ap (λ (h : Halt). h.gate) e
-still_heard cause.Gate (Item (Stop (cause.Memory other))) k l e h = ap (λ (h : Halt). h.gate) e ∙ h
-still_heard (cause.Memory refused) (Item (Stop cause.Gate)) k l e h =
-    ap (λ (h : Halt). is_some h.memory) e ∙ h
 still_heard (cause.Memory refused) (Item (Stop (cause.Memory other))) k l e h =
     ap (λ (h : Halt). is_some h.memory) e
 still_heard cause.Gate _ k l e h = ap (λ (h : Halt). h.gate) e ∙ h
@@ -130,15 +168,14 @@ module _ (tallied : Bool) (w : ℕ) (before old now : OutletStates) (k l : Colle
       ap length (sym more) ∙ length-map (ds ++ d ∷ []) done in
       record {
         lanes = takes_length (Item (done d)) _ _ _ t ∙ h.lanes;
-        turn = subst (λ n. n < w) (sym turn) (mod_below (suc k.turn) w pos);
+        turn = rw turn (mod_below (suc k.turn) w pos);
         written = ds ++ d ∷ [];
         total = total ∙ ap (λ (t : Total). total_plus t d) h.total
             ∙ sym (counted_more tallied ds d);
-        writes = subst (λ p. Writes p w before now (ds ++ d ∷ []) l) (sym at_l) (
+        writes = rw at_l (
           turn_more (map done ds) (done d) k.turn l.turn w k_writes.0 turn ∙ ap (λ n. n % w) longer,
-          subst (λ xs. IsDealt w xs l.replies.items) (sym more)
-              (dealt_item w (map done ds) (done d) k.replies.items l.replies.items k.turn k_writes.1
-              t h.turn k_writes.0),
+          rw more (dealt_item w (map done ds) (done d) k.replies.items l.replies.items k.turn
+              k_writes.1 t h.turn k_writes.0),
           all_took_same before now _ _ None (λ out. sym (written_more out ds d))
               (all_took_then before old now (λ out. written_text out ds)
               (λ out. text_of out d.texts) None k_writes.2 took),
@@ -162,14 +199,14 @@ module _ (tallied : Bool) (w : ℕ) (before old now : OutletStates) (k l : Colle
         next = d;
         sent = breaks.sent;
         short = breaks.short;
-        begun = subst (λ xs. IsBegun w xs l.replies.items) (sym more) (begun_now w _ _ dealt);
+        begun = rw more (begun_now w _ _ dealt);
         took = all_took_then before old now (λ out. written_text out ds)
             (λ out. part_at failed breaks.sent out (text_of out d.texts)) (Some failed) k_writes.2
             breaks.took;
       } in
       record {
         lanes = takes_length (Item (done d)) _ _ _ t ∙ h.lanes;
-        turn = subst (λ n. n < w) (sym turn) h.turn;
+        turn = rw turn h.turn;
         written = ds;
         total = total ∙ h.total;
         writes = subst (λ p. Writes p w before now ds l) (sym at_l) broken;
@@ -185,10 +222,10 @@ module _ (tallied : Bool) (w : ℕ) (before now : OutletStates) (k l : Collector
       let k_writes = at_turn tallied w before now k h at_k in
       record {
         lanes = takes_length Closed _ _ _ t ∙ h.lanes;
-        turn = subst (λ n. n < w) (sym turn) h.turn;
+        turn = rw turn h.turn;
         written = ds;
         total = total ∙ h.total;
-        writes = subst (λ p. Writes p w before now ds l) (sym at_l) (
+        writes = rw at_l (
           at_mark_closed w (map done ds) k.replies.items l.replies.items k.turn k_writes.1 t
               h.turn k_writes.0,
           k_writes.2,
@@ -212,7 +249,7 @@ module _ (tallied : Bool) (w : ℕ) (before now : OutletStates) (k l : Collector
       } in
       record {
         lanes = takes_length (Item (Stop why)) _ _ _ t ∙ h.lanes;
-        turn = subst (λ n. n < w) (sym turn) h.turn;
+        turn = rw turn h.turn;
         written = ds;
         total = total ∙ h.total;
         writes = subst (λ p. Writes p w before now ds l) (sym at_l) stopped;
@@ -254,7 +291,7 @@ collects_takes : (tallied : Bool) (w : ℕ) (r : Taken Reply) (before now : Outl
     l.turn ≡ k.turn → Collects tallied w before now l
 collects_takes tallied w r before now k l j h over at_l lt t halt total turn = record {
   lanes = takes_length r _ _ _ t ∙ h.lanes;
-  turn = subst (λ n. n < w) (sym turn) h.turn;
+  turn = rw turn h.turn;
   written = h.written;
   total = total ∙ h.total;
   writes = subst (λ p. Writes p w before now h.written l) (sym at_l)

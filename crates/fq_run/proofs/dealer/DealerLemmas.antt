@@ -1,26 +1,130 @@
 -- Blocks that are filled and dealt out, one after another.
-use Rattle.std.proofs.Common.{◌≡◌, ℕ, suc, ◌+◌, ◌<◌, ◌≤◌, ◌^◌, ◌%◌, Option, Some, None, List, [], ◌∷◌, ◌++◌, length, map, get_or, refl, sym, ap, subst, ◌∙◌, arith, length-append}
-use Rattle.std.proofs.Math.ListN.{set}
-use Rattle.std.proofs.Math.Nat.{zero-mod}
-use Rattle.std.proofs.lemmas.List.{append-nil, map-append, set-get_or}
+use Rattle.std.proofs.Common.{◌≡◌, ℕ, ◌+◌, ◌<◌, ◌≤◌, Option, Some, None, [], ◌∷◌, ◌++◌, length, refl, sym, ap, ◌∙◌, arith, suc, ◌^◌, ◌%◌, List, map, get_or, length-append}
+use Rattle.std.proofs.lemmas.List.{length-append, append-nil, map-append, set-get_or}
 use Rattle.std.proofs.lemmas.Grind.{common_steps}
-use Rattle.fq_text.specs.declared.encoding.Encoding.{Encoding}
 use Rattle.fq_text.specs.declared.memory.MemoryRefused.{MemoryRefused}
-use Rattle.fq_lane.specs.History.{History}
 use Rattle.fq_block.specs.Blocks.{Numbered}
+use Rattle.fq_pair.specs.declared.fault.InputFault.{InputFault}
 use Rattle.fq_pair.specs.Mates.{Mates}
 use Rattle.fq_run_core.specs.declared.reading_end.ReadingEnd.{ReadingEnd}
-use Rattle.fq_run_core.specs.declared.reading_end.ReadingEnd.TheVariants as reading
+use Rattle.fq_run.specs.dealer.Filling.{Fills}
+use Rattle.fq_pair.specs.Walks.{SourceState, Walks, MeetsEnd, MeetsFault, GoesOn}
+use Rattle.fq_run_core.specs.PairsRead.{Reads}
+use Rattle.fq_run_core.proofs.WalkLemmas.{walks_none, walks_then, reads_then}
+use Rattle.fq_pair.proofs.SideLemmas.{walked_records}
+use Rattle.std.proofs.Math.ListN.{set}
+use Rattle.std.proofs.Math.Nat.{zero-mod}
+use Rattle.fq_text.specs.declared.encoding.Encoding.{Encoding}
+use Rattle.fq_lane.specs.History.{History}
 use Rattle.fq_run_core.specs.Choices.{Choices}
 use Rattle.fq_run.specs.Shares.{join, AreEven}
 use Rattle.fq_run.specs.dealer.DealingOut.{AreNumbered, AreBlocks, DealsOut, SendsFilled}
-use Rattle.fq_run.specs.dealer.Filling.{Fills}
 use Rattle.fq_run.specs.lanes.Items.{names_of, IsDealt}
-use Rattle.fq_pair.specs.Walks.{SourceState, Walks, GoesOn}
-use Rattle.fq_run_core.specs.PairsRead.{Reads}
 use Rattle.fq_run.proofs.DealLemmas.{turn_more}
 use Rattle.fq_run.proofs.lanes.LaneLemmas.{dealt_offer, names_written}
-use Rattle.fq_run_core.proofs.WalkLemmas.{walks_none, walks_then, reads_then}
+use Rattle.fq_run_core.specs.declared.reading_end.ReadingEnd.TheVariants as reading
+
+-- A block that is being filled.
+
+-- `n` pairs were read, and are in the block
+pub record Filled (old now : SourceState) (empty block : Numbered) (n : ℕ) : Type 0 where
+  pub number : block.number ≡ empty.number
+  pub encoding : block.encoding ≡ empty.encoding
+  pub len : length block.pairs ≡ n
+  pub walks : Walks old now block.pairs
+  pub goes : GoesOn now
+
+-- one more pair
+abbrev pub pushed : Numbered → Mates → Numbered
+pushed block m = record {
+  number = block.number;
+  encoding = block.encoding;
+  pairs =
+      block.pairs ++ m ∷ [];
+}
+
+-- an empty block is one into which no pair was read yet
+pub filled_none : (s : SourceState) (block : Numbered) → GoesOn s → block.pairs ≡ [] →
+    Filled s s block block 0
+filled_none s block goes clear = record {
+  number = refl;
+  encoding = refl;
+  len = ap length clear;
+  walks = rw clear (walks_none s goes.last);
+  goes = goes;
+}
+
+-- one more pair was read, and is in the block
+pub filled_more : (old now next : SourceState) (empty block then : Numbered) (n : ℕ) (m : Mates) →
+    Filled old now empty block n → Walks now next (m ∷ []) →
+    next.forward.given ≤ next.most_bytes → then ≡ pushed block m →
+    Filled old next empty then (n + 1)
+filled_more old now next empty block then n m f w within is =
+    let len = f.len in
+    rw is (record {
+      number = f.number;
+      encoding = f.encoding;
+      len = omega (arith, length-append block.pairs (m ∷ []));
+      walks = walks_then old now next block.pairs (m ∷ []) f.walks w;
+      goes = record { last = w.last; within = within };
+    })
+
+-- the block is in the encoding of the source that fills it
+pub filled_encoding : (old now : SourceState) (empty block : Numbered) (n : ℕ) →
+    Filled old now empty block n → empty.encoding ≡ old.encoding → block.encoding ≡ now.encoding
+filled_encoding old now empty block n f is = let w = f.walks in let s = w.same in f.encoding ∙ is
+    ∙ sym s.encoding
+
+-- the pairs of the block are no more than the bytes that may come
+filled_within : (old now : SourceState) (empty block : Numbered) (n : ℕ) →
+    Filled old now empty block n → old.forward.given + length block.pairs ≤ old.most_bytes
+filled_within old now empty block n f =
+    let w = f.walks in let s = w.same in let g = f.goes in let given =
+    walked_records old now block.pairs w in let most = s.most_bytes in let within = g.within in
+    omega arith
+
+module _ (old now : SourceState) (empty block : Numbered) (n most : ℕ)
+    (f : Filled old now empty block n) where
+  -- the block is full, and reading goes on
+  pub fills_full : n ≡ most → Fills old now most empty block None
+  fills_full full = grind (arith, common_steps, filled_within old now empty block n f)
+
+  -- reading stopped after the block
+  fills_stopped : (next : SourceState) (stop : ReadingEnd) → n < most →
+      Reads old next block.pairs (Some stop) →
+      ((refused : MemoryRefused) → stop ≡ reading.Memory refused →
+      next.given ≡ old.given + length block.pairs + 1) →
+      Fills old next most empty block (Some stop)
+  fills_stopped next stop room reads lost =
+      grind (arith, common_steps, filled_within old now empty block n f)
+
+  -- the end of the input was found before the block was full
+  pub fills_end : (next : SourceState) → n < most → MeetsEnd now next →
+      Fills old next most empty block (Some reading.End)
+  fills_end next room e = fills_stopped next reading.End room (now, f.walks, e)
+      (λ refused is. absurd cc)
+
+  -- a fault was found before the block was full
+  pub fills_fault : (next : SourceState) (why : InputFault) → n < most → MeetsFault now next why →
+      Fills old next most empty block (Some (reading.Fault why))
+  fills_fault next why room e = fills_stopped next (reading.Fault why) room (now, f.walks, e)
+      (λ refused is. absurd cc)
+
+  -- memory for one more pair was refused: that pair is lost, and the block is as it was
+  pub fills_refused : (refused : MemoryRefused) (next : SourceState) (then : Numbered) (m : Mates) →
+      n < most → Walks now next (m ∷ []) → then ≡ block →
+      Fills old next most empty then (Some (reading.Memory refused))
+  fills_refused refused next then m room w same =
+      let walks = walks_then old now next block.pairs (m ∷ []) f.walks w in
+      let given = walks.given in
+      rw same (fills_stopped next (reading.Memory refused) room (m ∷ [], walks)
+      (λ again is. omega (arith, length-append block.pairs (m ∷ []))))
+
+-- equal bounds may be exchanged
+pub fills_as : (old new : SourceState) (most most' : ℕ) (empty block : Numbered)
+    (why : Option ReadingEnd) → most' ≡ most → Fills old new most' empty block why →
+    Fills old new most empty block why
+fills_as old new most most' empty block why same f = rw same at f
 
 -- Cutting.
 
@@ -94,7 +198,7 @@ module _ (c : Choices) (old : SourceState) (to : List (History Numbered)) where
     pub number_is : number ≡ length blocks
 
   fresh_lanes : (w : ℕ) → IsDealt w [] to → IsDealt (length to) [] to
-  fresh_lanes w fresh = let P : ℕ → Type 0 = λ n. IsDealt n [] to in subst P (sym fresh.lanes) fresh
+  fresh_lanes w fresh = rw fresh.lanes fresh
 
   -- before the first block nothing is read or dealt out, and it is the first lane's turn
   pub deals_none : GoesOn old → (w : ℕ) → 0 < w → IsDealt w [] to → DealsFull old to 0 0
@@ -151,15 +255,14 @@ module _ (c : Choices) (old : SourceState) (to : List (History Numbered)) where
         let full = f.full going in
         let blocks = d.blocks in let mates = d.mates in let few = d.few in let number_is =
         d.number_is in
-        let P : Option ReadingEnd → Type 0 = λ o. Reads now next block.pairs o in
         record {
           mates = mates ++ block.pairs;
           blocks = blocks ++ block ∷ [];
-          walks = walks_then old now next mates block.pairs d.walks (subst P going f.reads);
+          walks = walks_then old now next mates block.pairs d.walks (rw going at f.reads);
           goes = f.goes going;
           joined = joined_more;
-          full = subst (AreFull c.block_pairs) (sym (pairs_then blocks block))
-              (full_then c.block_pairs (pairs_of blocks) block.pairs d.full full);
+          full = rw (pairs_then blocks block) (full_then c.block_pairs (pairs_of blocks) block.pairs
+              d.full full);
           numbered = numbered_more;
           few = omega (arith, length-append mates block.pairs, length-append blocks (block ∷ []));
           dealt = dealt_more (omega arith);
@@ -192,7 +295,7 @@ module _ (c : Choices) (old : SourceState) (to : List (History Numbered)) where
           lost = lost_last;
           few = mates_few fresh bound;
           cut = cut_last (blocks ++ block ∷ []) (mates ++ block.pairs) joined_more
-              (subst (AreEven c.block_pairs) (sym (pairs_then blocks block)) even) numbered_more;
+              (rw (pairs_then blocks block) even) numbered_more;
           dealt = dealt_more some;
           names = names_more some;
         }
@@ -202,22 +305,17 @@ module _ (c : Choices) (old : SourceState) (to : List (History Numbered)) where
     last_none fresh bound most none =
         let blocks = d.blocks in let mates = d.mates in
         let same : mates ++ block.pairs ≡ mates = ap (λ ms. mates ++ ms) none ∙ append-nil mates in
-        let P : List Mates → Type 0 = λ ms. Reads old next ms why in
         let unsent : set lanes turn after ≡ lanes = ap (set lanes turn) (sends.none none ∙ read)
         ∙ set-get_or lanes turn other in
-        let Q : List Mates → Type 0 = λ ms. length ms ≤ 2 ^ 60 in
-        let R : List Mates → Type 0 = λ ms. (refused : MemoryRefused) →
-        why ≡ Some (reading.Memory refused) →
-        next.given ≡ old.given + length ms + 1 in
         record {
           mates = mates;
           blocks = blocks;
-          reads = subst P same (reads_then old now next mates block.pairs why d.walks f.reads);
-          lost = subst R same lost_last;
-          few = subst Q same (mates_few fresh bound);
+          reads = rw same at (reads_then old now next mates block.pairs why d.walks f.reads);
+          lost = rw same at lost_last;
+          few = rw same at (mates_few fresh bound);
           cut = cut_last blocks mates d.joined
               (even_full c.block_pairs (pairs_of blocks) most d.full) d.numbered;
-          dealt = subst (IsDealt (length to) blocks) (sym unsent) d.dealt;
+          dealt = rw unsent d.dealt;
           names = ap names_of unsent ∙ d.names;
         }
 

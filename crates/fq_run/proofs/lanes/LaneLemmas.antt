@@ -3,6 +3,7 @@ use Rattle.std.proofs.Common.{◌≡◌, ℕ, zero, suc, ◌<◌, ◌%◌, true,
 use Rattle.std.proofs.Math.ListN.{set, length-set}
 use Rattle.std.proofs.lemmas.List.{append-nil, get_or-set_same, get_or_default}
 use Rattle.std.proofs.lemmas.Bool.{cases_eq}
+use Rattle.std.proofs.lemmas.Grind.{common_steps}
 use mathlib.Core.List.{IsPrefix}
 use Rattle.fq_lane.specs.History.{History, with_item, with_mark}
 use Rattle.fq_lane.specs.Take.{Takes}
@@ -28,35 +29,18 @@ module _ {T : Type 0} where
     pub stays : a.marked ≡ true → b ≡ a
 
   marked_again : (l : History T) → l.marked ≡ true → with_mark l ≡ l
-  marked_again l m = ap (λ b. let k : History T = record {
-    name = l.name;
-    items = l.items;
-    marked =
-        b;
-  } in k) (sym m)
+  marked_again l m = grind (arith, common_steps)
 
   follows_same : (a b : History T) → b ≡ a → Follows a b
-  follows_same a b e = subst (Follows a) (sym e) (record {
-    name = refl;
-    begins =
-        ([], append-nil a.items);
-    stays = λ _. refl;
-  })
+  follows_same a b e =
+      rw e (record { name = refl; begins = ([], append-nil a.items); stays = λ _. refl })
 
   follows_take : (r : Taken T) (a b : History T) → Takes r a b → Follows a b
-  follows_take (Item x) a b t = subst (Follows a) (sym t.1) (record {
-    name = refl;
-    begins =
-        (x ∷ [], refl);
-    stays = λ m. cc;
-  })
+  follows_take (Item x) a b t =
+      rw t.1 (record { name = refl; begins = (x ∷ [], refl); stays = λ m. cc })
   follows_take Empty a b t = follows_same a b t.1
-  follows_take Closed a b t = subst (Follows a) (sym t) (record {
-    name = refl;
-    begins =
-        ([], append-nil a.items);
-    stays = marked_again a;
-  })
+  follows_take Closed a b t =
+      rw t (record { name = refl; begins = ([], append-nil a.items); stays = marked_again a })
 
   -- the lanes after one of them changed
   set_at : (ls : List (History T)) (j i : ℕ) (l d : History T) (P : History T → Type 0) →
@@ -89,8 +73,7 @@ module _ {T : Type 0} where
   takes_follow : (r : Taken T) (old new : List (History T)) (j : ℕ) → TakesAt r old new j →
       j < length old → (i : ℕ) (d : History T) → Follows (get_or old i d) (get_or new i d)
   takes_follow r old new j t lt i d =
-      let P : List (History T) → Type 0 = λ ls. Follows (get_or old i d) (get_or ls i d) in
-      subst P (sym t.becomes) (set_at old j i t.history d (Follows (get_or old i d)) lt
+      rw t.becomes (set_at old j i t.history d (Follows (get_or old i d)) lt
       (λ e. subst (λ (k : History T). Follows k t.history) (get_or_default old j t.history d lt
       ∙ ap (λ k. get_or old k d) (sym e))
       (follows_take r (get_or old j t.history) t.history t.takes))
@@ -119,10 +102,8 @@ module _ {T : Type 0} where
           append-nil (every i w xs)
               ∙ sym (h.items i d below),
         ) (takes_follow Closed old new j t within i d).begins;
-        ends = λ d. (let P : ℕ → Type 0 = λ k. (get_or new k d).items ≡ every k w xs in
-            subst P turn (ap (λ l. l.items) (at_j d) ∙ items_j));
-        closed = λ d. (let P : ℕ → Type 0 = λ k. (get_or new k d).marked ≡ true in
-            subst P turn (ap (λ l. l.marked) (at_j d) ∙ ap (λ l. l.marked) t.takes));
+        ends = λ d. rw (← turn) (ap (λ l. l.items) (at_j d) ∙ items_j);
+        closed = λ d. rw (← turn) (ap (λ l. l.marked) (at_j d) ∙ ap (λ l. l.marked) t.takes);
       }
 
   -- lanes that are at a mark still are after one more take
@@ -152,8 +133,7 @@ module _ {T : Type 0} where
   taken_at r s old new j k d l is lt read t becomes =
       record {
         history = l;
-        takes = subst (λ m. Takes s m l) (read ∙ get_or_default old j d l lt)
-            (subst (λ q. Takes q k l) is t);
+        takes = rw (read ∙ get_or_default old j d l lt) at (rw is at t);
         becomes = becomes;
       }
 
@@ -178,9 +158,8 @@ module _ {T : Type 0} where
       IsDealt w xs old → TakesAt (Item x) old new j → j < w → j ≡ length xs % w →
       IsDealt w (xs ++ x ∷ []) new
   dealt_item w xs x old new j h t lt turn =
-      subst (IsDealt w (xs ++ x ∷ [])) (sym t.becomes)
-      (dealt_offer w xs x old j (get_or old j t.history) t.history t.history h refl t.takes.1 lt
-      turn)
+      rw t.becomes (dealt_offer w xs x old j (get_or old j t.history) t.history t.history h refl
+      t.takes.1 lt turn)
 
   -- what came first has been written
   pub begun_takes : (w : ℕ) (r : Taken T) (xs : List T) (old new : List (History T)) (j : ℕ) →

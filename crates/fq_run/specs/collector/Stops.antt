@@ -2,6 +2,8 @@
 use Rattle.std.specs.Prelude.{◌≡◌, ℕ, Bool, true, false, Option, Some, None, List}
 use Rattle.std.specs.List.{list_any}
 use Rattle.fq_lane.specs.History.{History}
+use Rattle.fq_lane.specs.declared.taken.Taken.{Taken}
+use Rattle.fq_lane.specs.declared.taken.Taken.TheVariants.{Item}
 use Rattle.fq_text.specs.declared.memory.MemoryRefused.{MemoryRefused}
 use Rattle.fq_work.specs.declared.reply.Cause.{Cause}
 use Rattle.fq_work.specs.declared.reply.Cause.TheVariants.{Gate, Memory}
@@ -21,6 +23,11 @@ witness = record { made_of_an_error = tt }
 abbrev pub with_stop : Cause → Halt → Halt
 with_stop Gate halt = record { gate = true; memory = halt.memory }
 with_stop (Memory refused) halt = record { gate = halt.gate; memory = Some refused }
+
+-- what a take adds to the stops
+abbrev pub heard_at : Taken Reply → Halt → Halt
+heard_at (Item (Stop why)) halt = with_stop why halt
+heard_at _ halt = halt
 
 -- a Stop for this cause
 abbrev pub is_stop : Cause → Reply → Bool

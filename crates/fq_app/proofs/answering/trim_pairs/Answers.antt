@@ -58,7 +58,7 @@ returns-in-Ok-clause-request g c =
           subst (λ n. (n ≡ 0) ⊎ (n ≡ 3)) (sym (c.tell.ensures.whole ends)) ends in
           is_held a _ _ account.outcome account.counts reported run (c.tell.ensures.reported ends)
           is told name named;
-      report_left = λ told name named. is_left a _ _ name reported
+      report_left = λ told name named. is_left a _ _ _ name reported
           (c.in-Ok.ensures.completed.report told name named);
       unopened = c.in-Ok.ensures.unopened;
     } in

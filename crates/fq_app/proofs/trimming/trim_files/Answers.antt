@@ -1,6 +1,7 @@
 use Rattle.std.proofs.lemmas.Result.{err_from_is_err_and}
-use Rattle.fq_files.specs.States.{Errors}
-use Rattle.fq_files.proofs.StateLemmas.{says_as}
+use Rattle.std.proofs.Common.{subst}
+use Rattle.fq_files.specs.States.{FilesState}
+use Rattle.fq_app_files.specs.Trimming.{filed}
 use Rattle.fq_app_words.specs.Requests.{asking_of}
 use Rattle.fq_app_files.specs.Seeing.{IsReportError}
 use Rattle.fq_app_files.proofs.OpeningLemmas.{refusable_right, wrong_refused}
@@ -10,7 +11,7 @@ use Rattle.fq_app.proofs.trimming.trim_files.Goals as goal
 pub returns-in_err-settings-clause-refused : goal.returns-in_err-settings-clause-refused
 returns-in_err-settings-clause-refused g c =
     let p = err_from_is_err_and c.from_residual.result c.from_residual.ensures.1 in
-    rw (p.1, p.2) (wrong_refused (asking_of c.args.request.now) _ _
+    rw (p.1, p.2) (wrong_refused (asking_of c.args.request.now) _ _ _
     c.in_err-settings.ensures.wrong)
 
 -- the refusal of a file or of memory is true, and the files hold what it leaves
@@ -40,11 +41,12 @@ pub returns-clause-rest : goal.returns-clause-rest
 returns-clause-rest g c =
     let devices = c.in_ok-devices.ensures in
     (c.complete.ensures.completed _ devices.sound devices.opened
-    c.in_ok-settings.ensures.settings c.in_ok-settings.ensures.right).rest
+    c.in_ok-settings.ensures.settings).rest
 
 -- the error that is told of the report is one that its device may say, if that has failed
 pub returns-clause-report_says : goal.returns-clause-report_says
 returns-clause-report_says g c =
-    let P : Errors → Type 0 = λ may_say. IsReportError (asking_of c.args.request.now) may_say
+    let P : FilesState → Type 0 = λ s.
+    IsReportError (filed s (asking_of c.args.request.now)) s.may_say
     c.complete.result.reported c.complete.result.report_error in
-    says_as _ _ P c.in_ok-devices.ensures.sound c.complete.ensures.report_says
+    subst P c.in_ok-devices.ensures.sound c.complete.ensures.report_says

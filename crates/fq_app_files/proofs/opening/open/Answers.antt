@@ -3,10 +3,11 @@ use Rattle.std.proofs.lemmas.Result.{err_from_is_err_and}
 use Rattle.fq_files.specs.States.{FilesState}
 use Rattle.fq_files.proofs.StateLemmas.{same_as, told_as, told_before}
 use Rattle.fq_app_words.specs.Requests.{asking_of}
-use Rattle.fq_app_files.specs.Trimming.{opened_of}
+use Rattle.fq_app_files.specs.Trimming.{filed, opened_of}
+use Rattle.fq_app_files.proofs.FiledLemmas.{leads_as, writes_as}
 use Rattle.fq_app_files.proofs.LeavingLemmas.{leaves_since, report_after, report_refused, unchanged_or_nothing}
 use Rattle.fq_app_files.proofs.MakingLemmas.{five_empty, five_held, report_unmade, rest_made, still_empty}
-use Rattle.fq_app_files.proofs.OpeningLemmas.{leads_nowhere, late_status, refusable_since, refused_late, report_late, still_there}
+use Rattle.fq_app_files.proofs.OpeningLemmas.{leads_nowhere, late_status, no_inputs, refusable_since, refused_late, report_late, still_there}
 use Rattle.fq_app_files.proofs.opening.open.Goals as goal
 
 -- a refused output: what its refusal says is true, and the files hold what it leaves
@@ -14,35 +15,40 @@ pub returns-in_err-outlets-clause-unopened : goal.returns-in_err-outlets-clause-
 returns-in_err-outlets-clause-unopened g c =
     let p = err_from_is_err_and c.from_residual-in_err-outlets.result
     c.from_residual-in_err-outlets.ensures.1 in
-    let a = asking_of c.args.request.now in
+    let a = filed (g.T.Files.state c.args.files.now) (asking_of c.args.request.now) in
     let inputs = c.in_ok-feeds.ensures in
     let outputs = c.in_err-outlets.ensures in
+    let refused = rw (leads_as _ _ inputs.kept) at outputs.refused in
     let same = same_as _ _ inputs.kept in
     rw (p.1, p.2) (refused_late a _ _ _ (opened_of g.T.In.Feed.state c.in_ok-feeds.feeds)
-    outputs.refused.after outputs.refused.late
+    refused.after refused.late
     (refusable_since a (g.T.Files.state c.args.files.now) _ _ _
     (ap (λ (files : FilesState). files.refuses) inputs.kept) inputs.linked
-    outputs.refused.refused) inputs.opened.fed
+    refused.refused) inputs.opened.fed
     (λ told.
     let told_2 = told_as _ _ outputs.kept (told_as _ _ inputs.kept told) in
-    leaves_since a _ _ _ _ same (outputs.refused.unmade told_2).leaves)
+    leaves_since a _ _ _ _ same (refused.unmade told_2).leaves)
     (λ told name named free.
     let told_2 = told_as _ _ outputs.kept (told_as _ _ inputs.kept told) in
-    report_after _ _ _ ((outputs.refused.unmade told_2).rest name free ∙ same name))
+    report_after _ _ _ ((refused.unmade told_2).rest name free ∙ same name))
     (λ told name free other.
     let told_2 = told_as _ _ outputs.kept (told_as _ _ inputs.kept told) in
-    (outputs.refused.unmade told_2).rest name free ∙ same name))
+    (refused.unmade told_2).rest name free ∙ same name))
 
 -- a refused report: what its refusal says is true, and the files hold what it leaves
 pub returns-in_err-report-clause-unopened : goal.returns-in_err-report-clause-unopened
 returns-in_err-report-clause-unopened g c =
     let p = err_from_is_err_and c.from_residual-in_err-report.result
     c.from_residual-in_err-report.ensures.1 in
-    let a = asking_of c.args.request.now in
+    let a = filed (g.T.Files.state c.args.files.now) (asking_of c.args.request.now) in
     let inputs = c.in_ok-feeds.ensures in
     let outputs = c.in_ok-outlets.ensures in
     let report = c.in_err-report.ensures in
-    let after = report_late _ report.refused.why_is in
+    let led = leads_as _ _ outputs.kept ∙ leads_as _ _ inputs.kept in
+    let made = rw (leads_as _ _ inputs.kept) at outputs.made in
+    let refused = rw led at report.refused in
+    let others = rw led at report.others in
+    let after = report_late _ refused.why_is in
     let same = same_as _ _ inputs.kept in
     rw (p.1, p.2) (refused_late a _ _ _ (opened_of g.T.In.Feed.state c.in_ok-feeds.feeds)
     after (late_status _ after)
@@ -51,70 +57,89 @@ returns-in_err-report-clause-unopened g c =
     ∙ ap (λ (files : FilesState). files.refuses) inputs.kept)
     (λ name leads. inputs.linked name
     (subst (λ (files : FilesState). IsTrue (files.is_open name)) outputs.kept leads))
-    report.refused.refused) inputs.opened.fed
+    refused.refused) inputs.opened.fed
     (λ told.
     let told_2 = told_as _ _ outputs.kept (told_as _ _ inputs.kept told) in
-    report_unmade a _ _ _ report.refused.why_is
-    (still_empty a _ _ (five_empty _ _ _ (outputs.made.made told_2))
-    (report.refused.left told_2) (report.others told_2)))
+    report_unmade a _ _ _ refused.why_is
+    (still_empty a _ _ (five_empty _ _ _ (made.made told_2))
+    (refused.left told_2) (others told_2)))
     (λ told name named free.
     let told_2 = told_as _ _ outputs.kept (told_as _ _ inputs.kept told) in
-    let kept = rest_made _ _ _ _ (outputs.made.made told_2) name free ∙ same name in
-    report_refused _ _ _ report.refused.why_is
-    (unchanged_or_nothing _ _ _ kept (report.refused.left told_2 name named)))
+    let kept = rest_made _ _ _ _ (made.made told_2) name free ∙ same name in
+    report_refused _ _ _ refused.why_is
+    (unchanged_or_nothing _ _ _ kept (refused.left told_2 name named)))
     (λ told name free other.
     let told_2 = told_as _ _ outputs.kept (told_as _ _ inputs.kept told) in
-    report.others told_2 name other ∙ (rest_made _ _ _ _ (outputs.made.made told_2) name free
+    others told_2 name other ∙ (rest_made _ _ _ _ (made.made told_2) name free
     ∙ same name)))
 
 -- if an output is refused as it is made, no output and no report leads to an input
 pub returns-in_err-outlets-clause-spared : goal.returns-in_err-outlets-clause-spared
 returns-in_err-outlets-clause-spared g c = λ told name made leads.
-    let told_1 = told_as _ _ c.in_ok-feeds.ensures.kept told in
-    absurd (leads_nowhere (asking_of c.args.request.now) _ _
+    let inputs = c.in_ok-feeds.ensures in
+    let told_1 = told_as _ _ inputs.kept told in
+    let led = leads_as _ _ inputs.kept in
+    absurd (leads_nowhere
+    (filed (g.T.Files.state c.args.files.now) (asking_of c.args.request.now)) _ _
     (ap (λ (files : FilesState). files.is_open) c.in_err-outlets.ensures.kept)
-    (c.input_among_outputs.ensures.none c.in_default.is told_1)
-    (c.input_as_report.ensures.none c.if-input_as_report.false told_1) name made leads)
+    (rw led at (c.input_among_outputs.ensures.none c.in_default.is told_1))
+    (rw led at (c.input_as_report.ensures.none c.if-input_as_report.false told_1))
+    name made leads)
 
 -- if the report is refused as it is made, neither it nor an output leads to an input
 pub returns-in_err-report-clause-spared : goal.returns-in_err-report-clause-spared
 returns-in_err-report-clause-spared g c = λ told name made leads.
-    let told_1 = told_as _ _ c.in_ok-feeds.ensures.kept told in
-    absurd (leads_nowhere (asking_of c.args.request.now) _ _
+    let inputs = c.in_ok-feeds.ensures in
+    let told_1 = told_as _ _ inputs.kept told in
+    let led = leads_as _ _ inputs.kept in
+    absurd (leads_nowhere
+    (filed (g.T.Files.state c.args.files.now) (asking_of c.args.request.now)) _ _
     (ap (λ (files : FilesState). files.is_open) c.in_err-report.ensures.kept
     ∙ ap (λ (files : FilesState). files.is_open) c.in_ok-outlets.ensures.kept)
-    (c.input_among_outputs.ensures.none c.in_default.is
-    told_1)
-    (c.input_as_report.ensures.none c.if-input_as_report.false told_1) name made leads)
+    (rw led at (c.input_among_outputs.ensures.none c.in_default.is told_1))
+    (rw led at (c.input_as_report.ensures.none c.if-input_as_report.false told_1))
+    name made leads)
 
 -- if everything is opened, no output and no report leads to an input
 pub returns-clause-spared : goal.returns-clause-spared
 returns-clause-spared g c = λ told name made leads.
-    let told_1 = told_as _ _ c.in_ok-feeds.ensures.kept told in
-    absurd (leads_nowhere (asking_of c.args.request.now) _ _
+    let inputs = c.in_ok-feeds.ensures in
+    let told_1 = told_as _ _ inputs.kept told in
+    let led = leads_as _ _ inputs.kept in
+    absurd (leads_nowhere
+    (filed (g.T.Files.state c.args.files.now) (asking_of c.args.request.now)) _ _
     (ap (λ (files : FilesState). files.is_open) c.in_ok-report.ensures.kept
     ∙ ap (λ (files : FilesState). files.is_open) c.in_ok-outlets.ensures.kept)
-    (c.input_among_outputs.ensures.none c.in_default.is
-    told_1)
-    (c.input_as_report.ensures.none c.if-input_as_report.false told_1) name made leads)
+    (rw led at (c.input_among_outputs.ensures.none c.in_default.is told_1))
+    (rw led at (c.input_as_report.ensures.none c.if-input_as_report.false told_1))
+    name made leads)
 
 -- the devices are ready, the feeds have the bytes of the inputs, and other files are the same
 pub returns-clause-opened : goal.returns-clause-opened
 returns-clause-opened g c =
-    let a = asking_of c.args.request.now in
+    let a = filed (g.T.Files.state c.args.files.now) (asking_of c.args.request.now) in
     let inputs = c.in_ok-feeds.ensures in
     let outputs = c.in_ok-outlets.ensures in
     let report = c.in_ok-report.ensures in
+    let led_1 = leads_as _ _ inputs.kept in
+    let led_2 = leads_as _ _ outputs.kept ∙ led_1 in
+    let made = rw led_1 at outputs.made in
+    let others = rw led_2 at report.others in
     let same = same_as _ _ inputs.kept in
     record {
       ready = record {
         form = inputs.opened.form;
         fresh = inputs.opened.fresh;
-        healthy = outputs.made.healthy;
-        log = outputs.made.log;
+        healthy = made.healthy;
+        log = made.log;
         empty = λ told.
             let told_2 = told_before _ _ report.kept told in
-            outputs.made.empty (told_before _ _ outputs.kept told_2);
+            made.empty (told_before _ _ outputs.kept told_2);
+        theirs = λ told.
+            let told_2 = told_before _ _ report.kept told in
+            let told_1 = told_before _ _ outputs.kept told_2 in
+            rw (sym (writes_as _ _ report.kept ∙ writes_as _ _ outputs.kept)) at
+            (made.theirs told_1);
         there = λ told.
             let told_2 = told_before _ _ report.kept told in
             let told_1 = told_before _ _ outputs.kept told_2 in
@@ -125,12 +150,17 @@ returns-clause-opened g c =
             (outputs.names told_1 name (subst P (sym (same name)) some)));
         held = λ told out name named.
             let told_2 = told_before _ _ report.kept told in
-            report.held told_2 name (five_held _ _ _ (outputs.made.made told_2) out name named);
-        report_made = report.made;
+            report.held told_2 name (five_held _ _ _ (made.made told_2) out name named);
+        report_made = rw led_2 at report.made;
       };
       fed = inputs.opened.fed;
+      apart = λ told.
+          let told_1 = told_as _ _ inputs.kept told in
+          no_inputs a _ inputs.open
+          (rw led_1 at (c.input_among_outputs.ensures.none c.in_default.is told_1))
+          (rw led_1 at (c.input_as_report.ensures.none c.if-input_as_report.false told_1));
       rest = λ told name free other.
           let told_2 = told_as _ _ outputs.kept (told_as _ _ inputs.kept told) in
-          report.others told_2 name other ∙ (rest_made _ _ _ _ (outputs.made.made told_2) name free
+          others told_2 name other ∙ (rest_made _ _ _ _ (made.made told_2) name free
           ∙ same name);
     }

@@ -1,35 +1,42 @@
 use Rattle.std.proofs.Common.{◌∙◌, ℕ, List, Option, sym, ap, subst}
 use Rattle.std.specs.Option.{option_map}
 use Rattle.fq_files.specs.States.{MaySay}
-use Rattle.fq_files.proofs.StateLemmas.{told_before}
 use Rattle.fq_app_words.specs.Requests.{asking_of}
-use Rattle.fq_app_files.proofs.StoreLemmas.{one_stored}
+use Rattle.fq_app_files.specs.Trimming.{filed}
+use Rattle.fq_app_files.proofs.FiledLemmas.{output_filed}
+use Rattle.fq_app_files.proofs.StoreLemmas.{one_stored, still_held}
 use Rattle.fq_app_files.proofs.CountingLemmas.{one_counted}
 use Rattle.fq_app_files.proofs.outputs.store_one.Goals as goal
 
 -- the file of the output exists when its outlet is handed back
 pub done-requires-after_bounds : goal.done-requires-after_bounds
-done-requires-after_bounds g c κs within = λ told. c.requires.held told c.args.out _
-    (sym c.output_name.ensures ∙ ap (option_map (λ name. name.now)) c.in-Some.is)
+done-requires-after_bounds g c κs within =
+    let old = g.T.Files.state c.args.files.now in
+    let named = sym c.output_name.ensures ∙ ap (option_map (λ name. name.now)) c.in-Some.is in
+    λ told. c.requires.held told c.args.out (old.leads c.in-Some.name.now)
+    (output_filed old (asking_of c.args.request.now) c.args.out c.in-Some.name.now named)
 
 -- the file of each output still exists
 pub returns-clause-held : goal.returns-clause-held
-returns-clause-held g c = λ told out name named.
-    let before = told_before _ _ c.done.ensures.kept told in
-    c.done.ensures.held before name (c.requires.held before out name named)
+returns-clause-held g c =
+    still_held (asking_of c.args.request.now) (g.T.Files.state c.args.files.now)
+    (g.T.Files.state c.done.new.self) c.done.ensures.kept c.done.ensures.held c.requires.held
 
 -- one more output's file holds what its outlet has taken, and what is known of the outlet
 pub returns-clause-stored : goal.returns-clause-stored
 returns-clause-stored g c =
+    let a = asking_of c.args.request.now in
+    let old = g.T.Files.state c.args.files.now in
     let outlet = g.T.Target.Outlet.state c.args.outlet in
-    let named = sym c.output_name.ensures ∙ ap (option_map (λ name. name.now)) c.in-Some.is in
+    let file = old.leads c.in-Some.name.now in
+    let named = output_filed old a c.args.out c.in-Some.name.now
+    (sym c.output_name.ensures ∙ ap (option_map (λ name. name.now)) c.in-Some.is) in
     record {
-      stored = λ start states at first. one_stored (asking_of c.args.request.now) start states
-          c.args.out c.in-Some.name.now outlet
-          (g.T.Files.state c.args.files.now) (g.T.Files.state c.done.new.self) named at
+      stored = λ start states at first. one_stored (filed old a) start states c.args.out file
+          outlet old (g.T.Files.state c.done.new.self) named at
           c.done.ensures.kept c.done.ensures.stored c.done.ensures.others first;
-      counted = λ start states at first. one_counted (asking_of c.args.request.now) states
-          c.args.out c.in-Some.name.now outlet start _ _ named at
+      counted = λ start states at first. one_counted (filed old a) states c.args.out file
+          outlet start _ _ named at
           c.done.ensures.failed c.done.ensures.sound c.done.ensures.still first;
       flushed = c.done.ensures.flushed;
     }
@@ -37,7 +44,8 @@ returns-clause-stored g c =
 -- an error that is told is one of this output
 pub returns-clause-says : goal.returns-clause-says
 returns-clause-says g c =
-    let named = sym c.output_name.ensures ∙ ap (option_map (λ name. name.now)) c.in-Some.is in
-    let P : Option (List ℕ) → Type 0 =
-    λ name. MaySay (g.T.Files.state c.args.files.now).may_say name c.done.result in
+    let old = g.T.Files.state c.args.files.now in
+    let named = output_filed old (asking_of c.args.request.now) c.args.out c.in-Some.name.now
+    (sym c.output_name.ensures ∙ ap (option_map (λ name. name.now)) c.in-Some.is) in
+    let P : Option (List ℕ) → Type 0 = λ name. MaySay old.may_say name c.done.result in
     subst P (sym named) c.done.ensures.says

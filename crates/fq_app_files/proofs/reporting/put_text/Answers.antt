@@ -1,4 +1,4 @@
-use Rattle.std.proofs.Common.{◌≡◌, ◌≢◌, ◌+◌, ◌++◌, ◌∙◌, ℕ, Bool, true, false, IsTrue, OnOk, OnErr, Result, Ok, Err, is_err, is_ok, if◌then◌else◌, length, refl, subst, sym, ap, arith}
+use Rattle.std.proofs.Common.{◌≡◌, ◌≢◌, ◌+◌, ◌++◌, ◌∙◌, ℕ, Bool, true, false, IsSome, OnOk, OnErr, Result, Ok, Err, is_err, is_ok, if◌then◌else◌, length, refl, subst, sym, ap, arith}
 use Rattle.std.proofs.lemmas.List.{take_all}
 use Rattle.fq_app_files.proofs.reporting.put_text.Goals as goal
 
@@ -23,7 +23,7 @@ returns-clause-err g c =
     on_err c.flush.result (λ failed. record {
       taken = λ told. (
         length text,
-        c.flush.ensures.kept (subst IsTrue (sym c.send.ensures.told) told)
+        c.flush.ensures.kept (subst IsSome (sym c.send.ensures.told) told)
             ∙ (sent told ∙ ap (λ bytes. (g.O.Outlet.state c.args.target.now).taken ++ bytes)
             (sym (take_all (length text) text (omega arith)))),
       );

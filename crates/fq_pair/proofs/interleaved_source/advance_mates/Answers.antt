@@ -1,5 +1,6 @@
 -- The forward mate is kept, and the current record is its reverse mate.
-use Rattle.std.proofs.Common.{◌≡◌, true, false, Some, Ok, refl, is_some, arith, rules, ℕ, List, length, ap, ◌∙◌, ◌+◌, ◌++◌, suc, Bool, IsTrue, sym, ◌⊎◌, [], ⊎_elim, ◌*◌, Err, ◌≤◌, add-one, subst}
+use Rattle.std.proofs.Common.{◌≡◌, true, false, Some, Ok, refl, is_some, arith, rules, ℕ, List, length, ap, ◌∙◌, ◌+◌, ◌++◌, suc, Bool, IsTrue, sym, ◌⊎◌, [], ⊎_elim, ◌*◌, Err, ◌≤◌, add-one, subst, Option}
+use Rattle.std.specs.Option.{IsSomeAnd}
 use Rattle.std.proofs.lemmas.Grind.{common_steps}
 use Rattle.std.proofs.lemmas.Result.{err_from_is_err_and}
 use Rattle.std.proofs.lemmas.List.{length-append}
@@ -14,9 +15,9 @@ use Rattle.fq_text.specs.Lines.{lines, whole_part}
 use Rattle.fq_pair.specs.Interleaved.{meeting_after, interleaved_meeting, interleaved_pairs, side_after}
 use Rattle.fq_pair.specs.InterleavedSources.{front_of, asked, GivesPair, IsNext, StopsPairs, stopped, WasReading}
 use Rattle.fq_pair.specs.Mates.{mates_in}
-use Rattle.fq_pair.specs.Pairing.{belong, Stopped, Met, Pairs}
+use Rattle.fq_pair.specs.Pairing.{belong, Stopped, Met, first_names, Pairs}
 use Rattle.fq_text.specs.declared.fault.TextFault.{TextFault}
-use Rattle.fq_pair.specs.PairSources.{is_outside, is_cut, if_cut, if_endless, is_cut_short}
+use Rattle.fq_pair.specs.PairSources.{is_outside, is_cut, if_cut, if_endless, if_unmatched, names_kept, is_cut_short}
 use Rattle.fq_pair.specs.declared.side.Side.{Side}
 use Rattle.fq_pair.specs.declared.fault.InputFault.{InputFault}
 use Rattle.fq_text.proofs.ResultLemmas.{err_mapped}
@@ -330,6 +331,7 @@ module _ {F : Type 0} (state : F → FeedState) (a b c : Sourced F) (p : KeepsCo
             (cut_lacks _ why cut stops.going)));
         going = λ cut. not_before p.ended (cut_lacks _ why cut stops.going);
         endless = endless_behind _ why stops.endless;
+        names = tt;
         reading = (stops.last, stops.given ∙ first.given);
         given = refl;
         last = refl;
@@ -339,10 +341,13 @@ module _ {F : Type 0} (state : F → FeedState) (a b c : Sourced F) (p : KeepsCo
   -- a fault that is not one of the text
   pair_stops : (why : InputFault) → is_cut_short why ≡ false → if_cut (IsNext state a c) why →
       if_endless (c.max_reads ≤ c.taken) (c.max_reads ≤ c.taken) why → WasReading a c why →
+      if_unmatched (IsSomeAnd (names_kept (Some (Err why)) (Some f) c.current) (λ names.
+      IsTrue (state a.feed).tells →
+      first_names (front_of state (asked a kept false given before)) ≡ Some names)) why →
       (IsTrue (state a.feed).tells →
       front_of state (asked a kept check given before) ≡ Stopped why) →
       StopsPairs state (asked a kept check given before) (stopped c f check given (Err why)) why
-  pair_stops why uncut next endless reading fault_is = record {
+  pair_stops why uncut next endless reading names fault_is = record {
     fault_is = λ told inside. fault_is told;
     left = λ told inside. interleaved_left_stopped state (asked a kept check given before) why
         (fault_is told);
@@ -350,6 +355,7 @@ module _ {F : Type 0} (state : F → FeedState) (a b c : Sourced F) (p : KeepsCo
     next = next;
     going = λ cut. absurd (both_ways (is_cut_short why) uncut cut);
     endless = endless;
+    names = names;
     reading = reading;
     given = refl;
     last = refl;
@@ -360,7 +366,7 @@ module _ {F : Type 0} (state : F → FeedState) (a b c : Sourced F) (p : KeepsCo
   mate_missing : EndsText state b c →
       (let why = MateMissing Reverse (given + 1) in
       StopsPairs state (asked a kept check given before) (stopped c f check given (Err why)) why)
-  mate_missing ends = pair_stops (MateMissing Reverse (given + 1)) refl tt tt tt (λ told.
+  mate_missing ends = pair_stops (MateMissing Reverse (given + 1)) refl tt tt tt tt (λ told.
       front_behind state a b c p q kept check given before f first told
       ∙ ap (meeting_after check (suc given) f) (ends.end_is (p.told ∙ told))
       ∙ ap (λ k. Stopped (MateMissing Reverse k)) (sym (add-one given)))
@@ -372,9 +378,18 @@ module _ {F : Type 0} (state : F → FeedState) (a b c : Sourced F) (p : KeepsCo
   names_differ r why is second apart =
       let n = suc given in
       let ls = lines (rest_in state c) in
+      let pair : GivesPair state (asked a kept false given before) (asked c f false (given + 1)
+      before) (mates_in f r) =
+      two_given state a b c p q kept false given before before f r first second refl in
+      let held : Option Read → Type 0 = λ o.
+      IsSomeAnd (names_kept (Some (Err (NamesDiffer (given + 1)))) (Some f) o) (λ names.
+      IsTrue (state a.feed).tells →
+      first_names (front_of state (asked a kept false given before)) ≡ Some names) in
       subst (λ (y : InputFault). StopsPairs state (asked a kept check given before)
       (stopped c f check given (Err y)) y) (sym is)
-      (pair_stops (NamesDiffer (given + 1)) refl tt tt tt (λ told.
+      (pair_stops (NamesDiffer (given + 1)) refl tt tt tt
+      (subst held (sym second.current) (λ told. ap first_names (pair.pair_is told)))
+      (λ told.
       front_behind state a b c p q kept check given before f first told
       ∙ ap (meeting_after check n f) (second.record_is (p.told ∙ told))
       ∙ cond-false (belong check (mates_in f r)) (Met (mates_in f r) ls ls)

@@ -1,10 +1,10 @@
-use Rattle.std.proofs.Common.{◌≡◌, ◌+◌, ◌*◌, ◌-◌, ◌≤◌, ap, sym, ◌∙◌, ℕ, true, nat_le, Some, None, unwrap_or, List, [], ◌∷◌, length, sum, arith}
+use Rattle.std.proofs.Common.{◌≡◌, ◌+◌, ◌*◌, ◌≤◌, ap, sym, ◌∙◌, ℕ, true, Some, None, unwrap_or, List, [], ◌∷◌, length, sum, arith}
 use Rattle.std.specs.List.{list_all}
 use Rattle.std.proofs.lemmas.List.Sums.{sum_by-cons}
 use Rattle.std.proofs.lemmas.Bool.{and_parts, leb-true}
 use Rattle.fq_text.specs.declared.encoding.Encoding.{Encoding}
 use Rattle.fq_text.specs.declared.encoding.Encoding.TheVariants.{Sanger, Illumina13, Solexa}
-use Rattle.fq_text.specs.Scores.{lowest, offset, is_scored, value_at, value_of}
+use Rattle.fq_text.specs.Scores.{lowest, offset, is_scored}
 use Rattle.fq_trim.specs.Keeping.{scores}
 use Rattle.fq_report_reads.proofs.bases.score_sum.Goals as goal
 use Rattle.std.proofs.lemmas.Grind.{common_steps}
@@ -20,15 +20,7 @@ distances : (e : Encoding) (off : ℕ) → offset e ≡ Some off → (qual : Lis
     list_all (is_scored e) qual ≡ true → sum (scores e qual) + off * length qual ≡ sum qual
 distances e off is [] all = omega arith
 distances e off is (b ∷ others) all =
-    let parts = and_parts (is_scored e b) (list_all (is_scored e) others) all in
-    let least : lowest e ≤ b =
-    leb-true (lowest e) b (and_parts (nat_le (lowest e) b) (nat_le b 126) parts.0).0 in
-    let score : value_of e b ≡ b - off = ap (λ o. value_at o b) is in
-    let low = within e off is in
-    let rest = distances e off is others parts.1 in
-    let left = sum_by-cons (λ (x : ℕ). x) (value_of e b) (scores e others) in
-    let right = sum_by-cons (λ (x : ℕ). x) b others in
-    omega arith
+    grind (arith, common_steps, and_parts, leb-true, within, sum_by-cons, distances e off is others)
 
 -- the sum of the bytes is at least the offset times their number
 pub overflow_sub-result : goal.overflow_sub-result

@@ -1,6 +1,7 @@
-use Rattle.std.proofs.Common.{◌-◌, ℕ, eqb, ◌||◌}
+use Rattle.std.proofs.Common.{◌-◌, ℕ, eqb, ◌||◌, arith}
 use Rattle.fq_report_reads.proofs.VectorLemmas.{either_case, ones_chosen, ones_are_few}
 use Rattle.fq_report_reads.proofs.vectors.ones_of.Goals as goal
+use Rattle.std.proofs.lemmas.Grind.{common_steps}
 
 -- a lane is 1 if its base is the letter in either case, or else 0
 pub returns-clause-each : goal.returns-clause-each
@@ -12,5 +13,4 @@ returns-clause-each c =
 
 -- no lane is above 1
 pub returns-clause-ones : goal.returns-clause-ones
-returns-clause-ones c = ones_are_few (λ (b : ℕ). eqb b (c.args.letter - 32) || eqb b c.args.letter)
-    c.args.bases _ (returns-clause-each c)
+returns-clause-ones c = grind (arith, common_steps, ones_are_few, returns-clause-each)

@@ -1,4 +1,4 @@
-use Rattle.std.proofs.Common.{◌-◌, arith}
+use Rattle.std.proofs.Common.{arith}
 use Rattle.std.proofs.lemmas.List.{drop-drop, drop-take}
 use Rattle.fq_report_reads.proofs.VectorLemmas.{zeros_before, zeros_behind}
 use Rattle.fq_report_reads.proofs.vectors.vector_of.Goals as goal

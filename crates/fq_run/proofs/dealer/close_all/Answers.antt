@@ -1,6 +1,6 @@
-use Rattle.std.proofs.Common.{subst, ◌∙◌}
+use Rattle.std.proofs.Common.{◌∙◌}
 use Rattle.fq_run.specs.dealer.Dealt.{Closed}
-use Rattle.fq_run.proofs.EachLemmas.{one_counted, zip_pushed}
+use Rattle.fq_run.proofs.EachLemmas.{one_counted, zip_push}
 use Rattle.fq_run.proofs.dealer.close_all.Goals as goal
 
 -- one more lane is closed: its end, if it has one, is what was sent, with the mark
@@ -9,7 +9,6 @@ loop-ends-preserved c = record {
   room = c.push_reserved.ensures.capacity ∙ c.loop-ends.invariant.room;
   count = one_counted c.loop-ends.yielded c.in-Some.ends c.push_reserved.ensures.len
       c.loop-ends.invariant.count;
-  closed = zip_pushed Closed _ _ _ _ _ c.loop-ends.invariant.closed
-      (subst (λ to. Closed to c.close.result) c.ends.view_is c.close.ensures)
-      c.push_reserved.ensures.items;
+  closed = rw c.push_reserved.ensures.items (zip_push Closed _ _ _ _ c.loop-ends.invariant.closed
+      (rw c.ends.view_is at c.close.ensures));
 }

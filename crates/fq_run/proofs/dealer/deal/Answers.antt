@@ -12,8 +12,7 @@ returns g c =
       started = c.deal_from-why.ensures.started;
       deals = record {
         sent = c.deal_from-why.new.to.items;
-        out =
-            c.deal_from-why.ensures.deals;
+        out = c.deal_from-why.ensures.deals;
         ends = c.close_all.ensures;
       };
       idle = λ none. let idle = c.deal_from-why.ensures.idle none in

@@ -15,7 +15,8 @@ returns-in-Ok-clause-threaded g c =
     closed (interleaved_state f.state) fs fs (λ s. s.source.feed) (λ s. s.source.feed) (λ s. refl)
     (λ s. refl)
     InterleavedText c.args.settings.now _ c.args.feed c.args.feed c.in-Ok.ensures.ok _ _
-    c.run.result _ _ _ _ _ _ e.outcome e.total e.unended e.refused e.feed e.feed c.run.ensures
+    c.run.result _ _ _ _ _ _ _ e.outcome e.total e.unended e.refused e.told e.feed e.feed
+    c.run.ensures
 
 -- if memory for the source is refused, the feed is as it was, and the outlets are only flushed
 pub returns-in-Err-clause-threaded : goal.returns-in-Err-clause-threaded

@@ -15,7 +15,7 @@ returns-in-Ok-clause-threaded g c =
     closed (source_state f.state r.state) fs gs (λ s. s.forward.feed) (λ s. s.reverse.feed)
     (λ s. refl) (λ s. refl)
     TwoTexts c.args.settings.now _ c.args.forward c.args.reverse c.in-Ok.ensures.ok _ _ c.run.result
-    _ _ _ _ _ _ e.outcome e.total e.unended e.refused e.forward e.reverse c.run.ensures
+    _ _ _ _ _ _ _ e.outcome e.total e.unended e.refused e.told e.forward e.reverse c.run.ensures
 
 -- if memory for the source is refused, the feeds are as they were, and the outlets only flushed
 pub returns-in-Err-clause-threaded : goal.returns-in-Err-clause-threaded

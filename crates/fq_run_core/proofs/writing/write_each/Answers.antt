@@ -2,7 +2,7 @@
 use Rattle.std.proofs.Common.{arith}
 use Rattle.fq_run_core.proofs.GatherLemmas.{gathers_as, end_is, end_none}
 use Rattle.fq_run_core.proofs.OutletLemmas.{still_healthy}
-use Rattle.fq_run_core.proofs.BlockLemmas.{wrote_none, wrote_more, passes_broken, passes_whole, nearer}
+use Rattle.fq_run_core.proofs.PassLemmas.{wrote_none, wrote_more, passes_broken, passes_whole, nearer}
 use Rattle.fq_run_core.proofs.writing.write_each.Goals as goal
 
 -- before the first block nothing is written, and there is a tally if one is asked for

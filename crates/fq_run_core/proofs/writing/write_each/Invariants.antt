@@ -2,7 +2,7 @@
 -- brings the end nearer, since it takes bytes.
 use Rattle.std.proofs.Common.{◌-◌}
 use Rattle.fq_run_core.specs.Devices.{outlet_states}
-use Rattle.fq_run_core.proofs.BlockLemmas.{Wrote}
+use Rattle.fq_run_core.proofs.PassLemmas.{Wrote}
 use Rattle.fq_run_core.proofs.writing.write_each.Given as goal
 
 -- all blocks so far are read and written

@@ -8,9 +8,7 @@ use Rattle.fq_text.proofs.buffer.len_without_cr.Goals.{else-len-gt0-via-then-len
 
 no_cr : (xs : List ℕ) → (0 < length xs → get_or xs (length xs - 1) 0 ≡ 13 → ⊥) →
     without_cr xs ≡ take (length xs) xs
-no_cr [] none = refl
-no_cr (x ∷ xs) none = without_cr_no (x ∷ xs) (length (x ∷ xs) - 1) (omega arith)
-    (none (omega arith)) ∙ sym (take_all (length (x ∷ xs)) (x ∷ xs) (omega arith))
+no_cr xs none = grind (arith, common_steps, without_cr_no, take_all)
 
 -- a piece that ends in CR loses it
 pub returns-then-piece-len-eq13-clause-line : goal.returns-then-piece-len-eq13-clause-line

@@ -68,16 +68,13 @@ bytes_of (inr two) = 13 ∷ 10 ∷ []
 
 end_at : (hand : List ℕ) (i e : ℕ) (is : IsEnd e) → i + e ≤ length hand → EndsAt hand i e →
     take e (drop i hand) ≡ bytes_of is
-end_at hand i e (inl one) within p = grind (arith, common_steps)
-end_at hand i e (inr two) within p = grind (arith, common_steps)
+end_at hand i e is within p = grind (arith, common_steps)
 
 -- a line of k bytes at index i, with its line end
 line_at : (hand : List ℕ) (i k j e c : ℕ) (is : IsEnd e) → i + k ≡ j → k + e ≡ c →
     j + e ≤ length hand → EndsAt hand j e →
     take c (drop i hand) ≡ take k (drop i hand) ++ bytes_of is
-line_at hand i k j e c is place sum within p =
-    parted hand i j k e c sum place ∙ ap (λ ys. take k (drop i hand) ++ ys)
-    (end_at hand j e is within p)
+line_at hand i k j e c is place sum within p = grind (arith, common_steps, parted, end_at)
 
 -- a line after a mark
 marked_at : (hand : List ℕ) (i b k j e c : ℕ) (is : IsEnd e) → get_or hand i 0 ≡ b → i + 1 + k ≡ j →
@@ -165,14 +162,12 @@ module _ (encoding : Encoding) (hand : List ℕ) (s : Shape) (p : IsFourLines ha
 -- what follows the second mark is nothing, or the title
 plus_is_sound : (title again : List ℕ) → length title < limit → (again ≡ []) ⊎ (again ≡ title) →
     plus_fault title (43 ∷ again) ≡ None
-plus_is_sound title again fits (inl none) = ap (λ xs. plus_fault title (43 ∷ xs)) none
-plus_is_sound title again fits (inr same) =
+plus_is_sound title again fits is =
     grind (arith, common_steps, le-ltb, bytes_eq-Decides, not, or_right, bytes_eq)
 
 ends_plus : (end title again : List ℕ) → (again ≡ []) ⊎ (again ≡ title) → Ends end (43 ∷ []) →
     Ends end (43 ∷ title) → Ends end (43 ∷ again)
-ends_plus end title again (inl none) bare titled = grind (arith, common_steps)
-ends_plus end title again (inr same) bare titled = grind (arith, common_steps)
+ends_plus end title again is bare titled = grind (arith, common_steps)
 
 -- the lines of a valid record give the record
 lawful_lines : {e : ℕ} (is : IsEnd e) (r : Read) (again : List ℕ) → IsLawful r →

@@ -1,4 +1,4 @@
-use Rattle.std.proofs.Common.{◌≡◌, ℕ, ◌+◌, ◌-◌, List, length, take, drop, refl, sym, subst, ◌∙◌}
+use Rattle.std.proofs.Common.{◌≡◌, ℕ, ◌+◌, ◌-◌, List, length, take, drop, refl, sym, subst, ◌∙◌, arith}
 use Rattle.std.proofs.lemmas.List.{take_rest}
 use Rattle.fq_text.specs.Reading.{NoLf}
 use Rattle.fq_text.specs.Unwrapped.{IsFirstLine, BeginsWithRecord}
@@ -6,6 +6,7 @@ use Rattle.fq_text.specs.declared.encoding.Encoding.{Encoding}
 use Rattle.fq_text.specs.declared.unwrapped.Shape.{Shape}
 use Rattle.fq_text.proofs.UnwrappedLemmas.{same_line, first_line_ends, title_line, as_found, shape_is}
 use Rattle.fq_text.proofs.unwrapped.first_record.Goals as goal
+use Rattle.std.proofs.lemmas.Grind.{common_steps}
 
 -- the text after its first bytes
 abbrev behind : List ℕ → ℕ → List ℕ
@@ -26,10 +27,7 @@ two_lines e hand s t k n m first title bases =
 -- if the title has no line end in hand, no such record is there
 pub returns-in_err-title-clause-none : goal.returns-in_err-title-clause-none
 returns-in_err-title-clause-none c none s first =
-    let hand = c.args.hand.now in
-    first_line_ends (drop 1 hand) s.title s.end (title_line c.args.encoding hand s first)
-    (subst (λ (xs : List ℕ). NoLf xs (length xs)) (take_rest hand 1)
-    (c.in_err-title.ensures.none refl))
+    grind (arith, common_steps, first_line_ends, title_line, take_rest)
 
 -- the title is the first line after the `@`
 pub shape_of-requires-in-Some-first_line : goal.shape_of-requires-in-Some-first_line
@@ -40,24 +38,11 @@ shape_of-requires-in-Some-first_line c =
 -- if no shape fits the two lines that were found, no such record is there
 pub returns-in-Some-first_line-clause-none : goal.returns-in-Some-first_line-clause-none
 returns-in-Some-first_line-clause-none c none s first =
-    let e = c.args.encoding in
-    let hand = c.args.hand.now in
-    let title = c.in_ok-title.title in
-    let seq = c.in-Some-first_line.seq in
-    let found = two_lines e hand s title.len title.end seq.len seq.end first
-    c.in_ok-title.ensures.found c.in-Some-first_line.ensures.found in
-    c.shape_of-in-Some-first_line.ensures.none none s.again
-    (subst (λ (shape : Shape). BeginsWithRecord e hand shape)
-    (shape_is s title.len seq.len title.end found.0 found.2 found.1) first)
+    grind (arith, common_steps, two_lines, shape_is)
 
 -- if the two lines end differently, no such record is there
 pub returns-in_default-first_line-clause-none : goal.returns-in_default-first_line-clause-none
-returns-in_default-first_line-clause-none c none s first =
-    let title = c.in_ok-title.title in
-    let seq = c.in-Some-first_line.seq in
-    let found = two_lines c.args.encoding c.args.hand.now s title.len title.end seq.len seq.end
-    first c.in_ok-title.ensures.found c.in-Some-first_line.ensures.found in
-    c.if-seq-title.false (found.3 ∙ sym found.1)
+returns-in_default-first_line-clause-none c none s first = grind (arith, common_steps, two_lines)
 
 -- if the sequence has no line end in hand, no such record is there
 pub returns-in_default-first_line-2-clause-none : goal.returns-in_default-first_line-2-clause-none

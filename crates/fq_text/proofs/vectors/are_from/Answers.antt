@@ -12,17 +12,10 @@ use Rattle.fq_text.proofs.vectors.are_from.Goals as goal
 
 -- Conditions that are joined in another order.
 both_in : (a b c d : Bool) → (a && b) && (c && d) ≡ (a && c) && (b && d)
-both_in false b c d = refl
-both_in true false false d = refl
-both_in true false true d = refl
-both_in true true c d = refl
+both_in a b c d = grind (arith, common_steps)
 
 last_in_front : (t l c : Bool) → (t && l) && c ≡ (t && c) && l
-last_in_front false l c = refl
-last_in_front true false false = refl
-last_in_front true false true = refl
-last_in_front true true false = refl
-last_in_front true true true = refl
+last_in_front t l c = grind (arith, common_steps)
 
 -- all members pass both tests exactly if all pass the one and all pass the other
 in_both : (p q : ℕ → Bool) (v : List ℕ) →

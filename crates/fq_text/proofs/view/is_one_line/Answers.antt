@@ -19,10 +19,8 @@ without_lf (x ∷ xs) none = ⊎_elim
 -- a search for LF finds none exactly if no byte is LF
 none_found : (xs : List ℕ) (at : Option ℕ) (none : Bool) → IsFirstByte (is_byte 10) xs at →
     is_some at ≡ not none → none ≡ list_all (λ b. not (eqb b 10)) xs
-none_found xs None true found is = sym (without_lf xs found)
-none_found xs None false found is = cc
-none_found xs (Some k) true found is = cc
-none_found xs (Some k) false found is = grind (arith, common_steps)
+none_found xs at none found is =
+    grind (arith, common_steps, without_lf)
 
 -- a title is one line exactly if a search for LF finds none
 pub returns : goal.returns

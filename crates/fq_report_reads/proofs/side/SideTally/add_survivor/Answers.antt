@@ -77,7 +77,7 @@ returns c =
           ∙ ap (λ (x : BaseTally). with_bases x old.unpaired) c.kept_bases-left.ensures)
           ∙ sym (ap made w.if-mate_survives.false)
     ] in
-    parts_are (ap (λ (t : SideTally). t.before) is) (ap (λ (t : SideTally). t.paired) is)
+    parts_are _ _ (ap (λ (t : SideTally). t.before) is) (ap (λ (t : SideTally). t.paired) is)
     (ap (λ (t : SideTally). t.unpaired) is)
     (front_is old.front k.start (ap (λ (t : SideTally). t.front) is) sum)
     (behind_is old.behind k.stop (length read.seq) (ap (λ (t : SideTally). t.behind) is) size

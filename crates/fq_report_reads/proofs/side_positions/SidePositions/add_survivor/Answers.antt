@@ -1,7 +1,6 @@
-use Rattle.std.proofs.Common.{◌≡◌, ◌-◌, length, take, drop, ap, ◌∙◌, arith}
+use Rattle.std.proofs.Common.{◌≡◌, ◌-◌, length, take, drop, arith}
 use Rattle.fq_report_reads.specs.Columns.{columns_from, columns_of}
 use Rattle.fq_report_reads.specs.Courses.{whole}
-use Rattle.fq_report_reads.specs.SideColumns.{SideColumns, with_before, with_after}
 use Rattle.fq_report_reads.proofs.CourseLemmas.{part}
 use Rattle.fq_report_reads.proofs.SideColumnLemmas.{between_are_bases, kept_are_bases, in_place, left_counted, cut_columns, all_columns}
 use Rattle.fq_report_reads.proofs.side_positions.SidePositions.add_survivor.Goals as goal
@@ -59,12 +58,10 @@ returns-then-stop-seq c =
     (take (length qual - k.stop) (drop k.stop qual)) in
     let both = cut_columns read k e seq qual c.encoding-encoding.ensures c.seq-seq.ensures
     c.qual-qual.ensures c.requires lawful.same_len lawful.seq_fits lawful.scores start in
-    c.add_in_place.ensures
-    ∙ ap (λ (t : SideColumns). with_before x (with_after x c.args.mate_survives t))
-    c.add_rest-then-stop-seq.ensures
-    ∙ in_place x rest (columns_of (whole read)) c.args.mate_survives c.args.self.now both
-    ∙ left_counted read k c.args.mate_survives c.args.self.now e seq qual
-    c.encoding-encoding.ensures c.seq-seq.ensures c.qual-qual.ensures c.requires lawful.same_len
+    let placed = in_place x rest (columns_of (whole read)) c.args.mate_survives c.args.self.now both in
+    let left = left_counted read k c.args.mate_survives c.args.self.now e seq qual
+    c.encoding-encoding.ensures c.seq-seq.ensures c.qual-qual.ensures c.requires lawful.same_len in
+    grind (arith, c.add_in_place.ensures, c.add_rest-then-stop-seq.ensures)
 
 -- a read that lost nothing is counted: all of its bases in place
 pub returns-else-stop-seq : goal.returns-else-stop-seq

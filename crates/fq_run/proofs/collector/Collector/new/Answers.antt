@@ -1,7 +1,7 @@
 -- Nothing has come so far.
 use Rattle.std.proofs.Common.{sym, subst, arith, length, ◌≡◌, []}
 use Rattle.fq_run.specs.lanes.Items.{IsDealt}
-use Rattle.fq_run.proofs.collector.StopLemmas.{no_stops}
+use Rattle.fq_run.proofs.collector.CollectLemmas.{no_stops}
 use Rattle.fq_run.proofs.collector.Collector.new.Goals as goal
 
 -- no stop has come, and none is noted

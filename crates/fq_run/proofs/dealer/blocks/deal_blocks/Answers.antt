@@ -1,8 +1,7 @@
 -- Each block is filled and dealt out, until reading stops.
 use Rattle.std.proofs.Common.{◌≡◌, ◌%◌, suc, length, ap, ◌∙◌, arith}
 use Rattle.fq_block.specs.Blocks.{Numbered}
-use Rattle.fq_run.proofs.dealer.FillLemmas.{fills_as}
-use Rattle.fq_run.proofs.dealer.DealerLemmas.{deals_none, deals_more, deals_last}
+use Rattle.fq_run.proofs.dealer.DealerLemmas.{fills_as, deals_none, deals_more, deals_last}
 use Rattle.fq_run.proofs.dealer.blocks.deal_blocks.Goals as goal
 
 -- before the first block nothing is read or dealt out

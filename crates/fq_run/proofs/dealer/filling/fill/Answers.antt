@@ -2,7 +2,7 @@
 use Rattle.std.proofs.Common.{◌≡◌, arith, sym, ◌∙◌}
 use Rattle.fq_pair.specs.Mates.{name_lengths}
 use Rattle.fq_run_core.proofs.WalkLemmas.{is_in_hand, of_in_hand, if_in_hand}
-use Rattle.fq_run.proofs.dealer.FillLemmas.{filled_none, filled_more, filled_encoding, fills_full, fills_end, fills_fault, fills_refused}
+use Rattle.fq_run.proofs.dealer.DealerLemmas.{filled_none, filled_more, filled_encoding, fills_full, fills_end, fills_fault, fills_refused}
 use Rattle.fq_run.proofs.dealer.filling.fill.Goals as goal
 
 -- before the first pair the block is empty

@@ -1,5 +1,5 @@
 -- After each round of the loop the block has one more pair.
-use Rattle.fq_run.proofs.dealer.FillLemmas.{Filled}
+use Rattle.fq_run.proofs.dealer.DealerLemmas.{Filled}
 use Rattle.fq_run.proofs.dealer.filling.fill.Given as goal
 
 -- the block has as many pairs as there were turns

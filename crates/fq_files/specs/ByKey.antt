@@ -1,0 +1,52 @@
+-- Files of a disk by key, as the contracts of files see them.
+use Rattle.std.specs.Prelude.{ℕ, Bool, true, false, not, ◌&&◌, ◌||◌, Option, Some, None, List, [], ◌∷◌, if◌then◌else◌}
+use Rattle.std.specs.Str.{bytes_eq}
+use Rattle.fq_files.specs.ByInode.{is_in}
+use Rattle.fq_files.specs.Disks.{DiskState, Inode}
+use Rattle.fq_files.specs.Holding.{Holding}
+use Rattle.fq_files.specs.States.{FilesState}
+use Rattle.fq_files.specs.declared.files.Cause.{Cause}
+use Rattle.fq_files.specs.declared.files.Cause.TheVariants.{Input, Output, System}
+
+-- the key of an inode, and that of no file
+abbrev pub key_of : Option ℕ → List ℕ
+key_of None = []
+key_of (Some i) = i ∷ []
+
+-- what is so of the inode of this key, or of a key of no file
+abbrev pub by_key : {T : Type 0} → T → (ℕ → T) → List ℕ → T
+by_key none of [] = none
+by_key none of (i ∷ []) = of i
+by_key none of (i ∷ j ∷ more) = none
+
+-- the bytes of an inode, if it is there
+abbrev pub bytes_at : Inode → Option (List ℕ)
+bytes_at inode = if inode.is_there then Some inode.bytes else None
+
+abbrev pub bytes_in : (ℕ → Inode) → Holding
+bytes_in at = by_key None (λ i. bytes_at (at i))
+
+abbrev pub is_input : Cause → Bool
+is_input Input = true
+is_input Output = false
+is_input (System error) = false
+
+-- the bytes of files are known to the proof if each is regular: a pipe holds none
+abbrev pub told : DiskState → Bool
+told disk = disk.tells && disk.only_regular
+
+-- Files of a disk with these inputs. If the bytes of files are known, only an input is refused
+-- because it is one. A failure counts for every file, and so does a target that was not flushed.
+abbrev pub files_state_of : DiskState → List ℕ → Bool → Bool → FilesState
+files_state_of disk inputs has_failed has_unflushed = record {
+  leads = λ name. key_of (disk.inode_of name);
+  tells = told disk;
+  looks = false;
+  bytes = bytes_in disk.at;
+  refuses = λ file cause. not (told disk) || not (is_input cause);
+  may_say = λ file error. true;
+  writes = λ number file. bytes_eq (key_of number) file;
+  is_open = λ file. not (told disk) || by_key false (is_in inputs) file;
+  has_failed = λ file. has_failed;
+  is_unflushed = λ file. has_unflushed;
+}

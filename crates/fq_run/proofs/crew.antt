@@ -1,2 +1,0 @@
--- Lemmas on the threads that trim.
-pub mod WorkerLemmas
