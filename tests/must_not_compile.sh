@@ -216,7 +216,6 @@ written=$(grep -rcE "$value" --include='*.rt' crates/*/src |
 wanted='crates/fq_app/src/answering.rt:1
 crates/fq_app/src/example.rt:1
 crates/fq_app_files/src/reporting.rt:1
-crates/fq_files/src/memory_disk.rt:1
 crates/fq_prog/src/main.rt:1
 crates/fq_run_core/src/refused.rt:1'
 [ "$written" = "$wanted" ] || fail "errors of std are written as values in: $written"
