@@ -231,14 +231,14 @@ found_in_hand encoding hand s ls p =
 module _ {F : Type 0} (state : F → FeedState) where
   -- a reader that takes a record out of the bytes in hand is after it
   goes_first : (a b : Lined F) (encoding : Encoding) (s : Shape) (k : ℕ) →
-      b ≡ behind_line state a k (four_len s) → BeginsWithRecord encoding a.in_hand s →
+      b ≡ behind_line a k (four_len s) → BeginsWithRecord encoding a.in_hand s →
       Goes state a b (front encoding) (Found (unwrapped encoding s (drop 1 a.in_hand)))
   goes_first a b encoding s k is p =
       let len = four_len s in
       subst (λ (r : Lined F). Goes state a r (front encoding)
       (Found (unwrapped encoding s (drop 1 a.in_hand)))) (sym is) (record {
         used = take len a.in_hand;
-        reads = behind_reads state a a k len (reads_none state a);
+        reads = behind_reads k len (reads_none a);
         closed = inl (whole_first encoding a.in_hand s p.lines p.shape.end);
         answer = λ ls. found_in_hand encoding a.in_hand s ls p;
         small = λ lt. omega (arith, length-drop len a.in_hand);
@@ -259,7 +259,7 @@ returns-clause-found g c =
     subst (λ (r : Read). Goes g.F.Feed.state a b (front e) (Found r))
     (sym (taken_same e a.in_hand s first b.line line))
     (goes_first g.F.Feed.state a b e s (lines_len s) (took
-    ∙ ap (λ n. behind_line g.F.Feed.state a (lines_len s) n) used) first)
+    ∙ ap (λ n. behind_line a (lines_len s) n) used) first)
 
 -- the bytes that were taken are enough for the four lines of the shape
 pub returns-clause-whole : goal.returns-clause-whole

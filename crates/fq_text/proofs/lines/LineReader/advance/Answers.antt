@@ -22,18 +22,11 @@ returns-in-Some-clause-step g c =
     ∙ length-drop (at + 1) c.loop-at.self.in_hand in
     let chunk = ap (λ (r : Lined g.row.F.Denot). r.chunk) is in
     let same = old.reads.chunk in
-    let line = takes_to g.F.Feed.state c.args.self.now c.loop-at.self c.take_line.new.self at is
-    old.reads c.in-Some.ensures.place
+    let line = takes_to at is old.reads c.in-Some.ensures.place
     (λ lt. let room = old.small lt in omega arith) in
     judged_as c.judged.result _ _ (length c.take_line.new.self.line) c.judged.ensures.ok
-    c.judged.ensures.err
-    (λ fits. (line, fits))
-    (λ long. (
-      refl,
-      long_taken g.F.Feed.state c.args.self.now c.take_line.new.self line
-          (sound_behind g.F.Feed.state c.loop-at.self c.take_line.new.self at (at + 1) is old.sound)
-          long,
-    ))
+    c.judged.ensures.err (λ fits. (line, fits))
+    (λ long. (refl, long_taken line (sound_behind _ _ is old.sound) long))
 
 -- so many bytes without a line end belong to a line that is too long
 pub returns-then-scanned-clause-step : goal.returns-then-scanned-clause-step
