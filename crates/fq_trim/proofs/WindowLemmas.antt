@@ -8,7 +8,7 @@ use Rattle.std.proofs.lemmas.List.Sums.{sum_by_push}
 use Rattle.std.proofs.lemmas.Simd.{get_or-chunk, get_or-zip2, run_in_chunk_le, run_in_chunk_fails, run_in_chunk_stops}
 use Rattle.std.proofs.lemmas.Grind.{common_steps}
 use Rattle.fq_trim.specs.Windows.{distances, IsGoodStop}
-use Rattle.fq_trim.proofs.PlaceLemmas.{high_window}
+use Rattle.fq_trim.proofs.PlaceLemmas.{high_window, sum_more}
 use Rattle.fq_text.proofs.VectorLemmas.{flag, mask_of}
 use native.Mathlib.Nat.{one-le-pow, two-pow-succ}
 use lib.Lanes.{Each1, zip2, sel_l, mask_l, chunk, top}
@@ -142,12 +142,7 @@ pub all_pass : (p : ℕ → Bool) (v : List ℕ) {z : List ℕ} → length v ≡
     z ≡ map (λ x. flag (p x)) v → eqb (mask_l (map (top 7) z) % 2 ^ 64) 65535 ≡ list_all p v
 all_pass p v long same = grind (arith, common_steps, mask_of p v, all_set p v)
 
--- the sum of a part with one more score
-one_more : (q : List ℕ) (i k : ℕ) → k + i < length q →
-    sum (take (i + 1) (drop k q)) ≡ sum (take i (drop k q)) + get_or q (k + i) 0
-one_more q i k lt = grind (arith, common_steps, take_more, length-drop, sum_by_push, get_or-drop)
-
--- so is each sum of a vector, saturated at 255
+-- each sum of a vector has one more score, saturated at 255
 pub lane_more : (offset i k : ℕ) (qual sums scores : List ℕ) → length sums ≡ 32 →
     i + 32 ≤ length qual → k < 32 →
     scores ≡ map (λ byte. byte - offset) (take 32 (drop i qual)) →
@@ -168,7 +163,7 @@ lane_more offset i k qual sums scores long room lt is so_far =
     ∙ ap (λ byte. byte - offset) (get_or-chunk i 32 qual k 0 lt)
     ∙ ap (λ n. get_or qual n 0 - offset) place
     ∙ sym (get_or-map (λ byte. byte - offset) qual (k + i) 0 0 (omega arith)) in
-    let next = one_more q i k (omega arith) in
+    let next = sum_more q i k (omega arith) in
     let both = get_or-zip2 (λ x y. min 255 (x + y)) sums scores k 0 0 0 (omega arith)
     (omega arith) in
     omega arith

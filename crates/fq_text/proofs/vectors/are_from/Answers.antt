@@ -2,11 +2,12 @@ use Rattle.std.proofs.Common.{length, ◌-◌, ◌∙◌, sym, arith, leb, ◌�
 use Rattle.std.specs.List.{list_all}
 use lib.Lanes.{chunk, top, zip2, sel_l}
 use Rattle.std.proofs.lemmas.Bool.{and_from, and_parts, cases_Bool}
-use Rattle.std.proofs.lemmas.List.{take-append-drop, length-drop, take_all, take-take}
+use Rattle.std.proofs.lemmas.List.{length-drop, take_all, take-take}
 use Rattle.std.proofs.lemmas.List.Folds.{list_all-append}
 use Rattle.std.proofs.lemmas.Simd.{length-chunk}
 use Rattle.std.proofs.lemmas.Grind.{common_steps}
 use Rattle.fq_text.specs.Scores.{is_from}
+use Rattle.fq_text.proofs.ScoreLemmas.{all_parts}
 use Rattle.fq_text.proofs.VectorLemmas.{flag}
 use Rattle.fq_text.proofs.vectors.are_from.Goals as goal
 
@@ -49,17 +50,6 @@ all_largest high (x ∷ xs) (y ∷ ys) long = grind (arith, common_steps, all_la
 
 -- Parts of which each byte passes.
 module _ (p : ℕ → Bool) where
-  all_of_front : (n : ℕ) (xs : List ℕ) → list_all p xs ≡ true → list_all p (take n xs) ≡ true
-  all_of_front zero xs all = refl
-  all_of_front (suc n) [] all = refl
-  all_of_front (suc n) (x ∷ xs) all = let parts = and_parts (p x) (list_all p xs) all in
-      and_from _ _ parts.0 (all_of_front n xs parts.1)
-
-  in_parts : (n : ℕ) (xs : List ℕ) → list_all p xs ≡ list_all p (take n xs) && list_all p
-      (drop n xs)
-  in_parts n xs = ap (list_all p) (sym (take-append-drop n xs))
-      ∙ list_all-append p (take n xs) (drop n xs)
-
   more_in_front : (start n : ℕ) (xs : List ℕ) →
       list_all p (take (start + n) xs) ≡ list_all p (take start xs) && list_all p (chunk start n xs)
   more_in_front start n xs = grind (arith, common_steps, take-add, list_all-append)
@@ -69,9 +59,9 @@ module _ (p : ℕ → Bool) where
   by_the_last start last n xs whole passed front =
       let before : list_all p (take last xs) ≡ true =
       ap (list_all p) (sym (take-take last start xs passed))
-      ∙ all_of_front last (take start xs) front in
+      ∙ (and_parts _ _ (sym (all_parts p last (take start xs)) ∙ front)).0 in
       ap (list_all p) (take_all n (drop last xs) (omega (arith, length-drop last xs)))
-      ∙ sym (in_parts last xs ∙ ap (λ b. b && list_all p (drop last xs)) before)
+      ∙ sym (all_parts p last xs ∙ ap (λ b. b && list_all p (drop last xs)) before)
 
   -- the bytes before an index, and the last ones, which begin there or earlier
   with_the_last : (start last n : ℕ) (xs : List ℕ) → last + n ≡ length xs → last ≤ start →
@@ -80,7 +70,7 @@ module _ (p : ℕ → Bool) where
       (λ (front : list_all p (take start xs) ≡ true). ap (λ b. b && list_all p (chunk last n xs))
       front ∙ by_the_last start last n xs whole passed front)
       (λ (bad : list_all p (take start xs) ≡ false). ap (λ b. b && list_all p (chunk last n xs)) bad
-      ∙ sym (in_parts start xs ∙ ap (λ b. b && list_all p (drop start xs)) bad))
+      ∙ sym (all_parts p start xs ∙ ap (λ b. b && list_all p (drop start xs)) bad))
       (cases_Bool (list_all p (take start xs)))
 
 -- The least and the greatest bytes so far, and those of one more vector.
