@@ -207,6 +207,11 @@ pub window_bad : (w t n : ℕ) (q : List ℕ) → sum (take w q) < w * t →
 window_bad w t n q bad = empty_between (keeps (SlidingWindow w t) q) n
     (λ k. and_left _ _ (and_right _ _ (lt-leb (w * t) (sum (take w q)) bad)))
 
+-- a function of each member of a part of a list
+pub map_part : (f : ℕ → ℕ) (s n : ℕ) (xs : List ℕ) →
+    map f (take n (drop s xs)) ≡ take n (drop s (map f xs))
+map_part f s n xs = sym (take-map f n (drop s xs)) ∙ ap (take n) (sym (drop-map f s xs))
+
 -- Scores of quality bytes.
 module _ (e : Encoding) (qual : List ℕ) where
   -- there are as many scores as quality bytes
@@ -220,8 +225,7 @@ module _ (e : Encoding) (qual : List ℕ) where
 
   -- the scores of a part of a read are that part of its scores
   pub scores_of_part : (s n : ℕ) → scores e (take n (drop s qual)) ≡ take n (drop s (scores e qual))
-  scores_of_part s n = sym (take-map (value_of e) n (drop s qual))
-      ∙ ap (take n) (sym (drop-map (value_of e) s qual))
+  scores_of_part s n = map_part (value_of e) s n qual
 
   -- what a step keeps of a part of a read is what it keeps of that part of the scores
   pub part_between : (step : Step) (start stop lo hi : ℕ) → start ≤ stop → stop ≤ length qual →

@@ -18,5 +18,6 @@ returns c =
     let e = c.args.encoding in
     let qual = c.args.qual.now in
     let low = c.loop-i.invariant in
-    rw c.start_at-2.ensures (leading_between c.args.score (scores e qual) (length qual) (length qual)
-    (length-scores e qual) (omega arith) (λ k lt. low k (omega arith)) (λ lt. absurd (omega arith)))
+    rw c.start_at-2.ensures (leading_between c.args.score (scores e qual) (length qual)
+    (length qual) (length-scores e qual) (omega arith) (λ k lt. low k (omega arith))
+    (λ lt. absurd (omega arith)))
