@@ -1,8 +1,8 @@
 use Rattle.std.proofs.Common.{◌≡◌, ◌+◌, ◌-◌, arith, ap, sym, length, sum, take, drop}
 use Rattle.std.proofs.lemmas.List.{take-map, length-take-le}
-use Rattle.fq_text.specs.Scores.{is_scored, value_of}
+use Rattle.fq_text.specs.Scores.{value_of}
 use Rattle.fq_trim.specs.Keeping.{scores}
-use Rattle.fq_trim.proofs.PlaceLemmas.{length-scores, all_taken, window_bad, window_kept}
+use Rattle.fq_trim.proofs.PlaceLemmas.{length-scores, window_bad, window_kept}
 use Rattle.fq_trim.proofs.keeping.sliding_window.Goals as goal
 
 -- if the first window is bad, SLIDINGWINDOW keeps nothing
@@ -19,11 +19,6 @@ returns-then-good-width c =
     let is = ap (λ n. sum (take w (drop n q))) place in
     let bad = found.bad (omega arith) in
     rw c.stop_at-then-good-width.ensures (window_bad w c.args.score _ q (omega arith))
-
--- each byte before index `good` has a score
-pub after_last-requires : goal.after_last-requires
-after_last-requires c = all_taken (is_scored c.args.encoding) c.args.qual.now
-    c.good_stop-good.result c.requires.scored
 
 -- SLIDINGWINDOW keeps the bases up to the last high score before index `good`
 pub returns : goal.returns

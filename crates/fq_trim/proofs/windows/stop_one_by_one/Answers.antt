@@ -1,15 +1,7 @@
 use Rattle.std.proofs.Common.{refl, ◌≡◌, ◌+◌, ◌-◌, arith, ap, sum, take, drop}
-use Rattle.fq_text.specs.Scores.{is_scored}
 use Rattle.fq_trim.specs.Keeping.{scores}
-use Rattle.fq_trim.proofs.PlaceLemmas.{length-scores, all_taken, all_dropped, from_sum, from_good, from_bad}
+use Rattle.fq_trim.proofs.PlaceLemmas.{length-scores, from_sum, from_good, from_bad}
 use Rattle.fq_trim.proofs.windows.stop_one_by_one.Goals as goal
-
--- each byte of the window that is summed first has a score
-pub total_of-first-requires : goal.total_of-first-requires
-total_of-first-requires c =
-    let start = c.max-from.result - c.args.width in
-    all_taken (is_scored c.args.encoding) (drop start c.args.qual.now) _
-    (all_dropped (is_scored c.args.encoding) c.args.qual.now start c.requires.scored)
 
 -- if the window that is summed first is bad, it is the first of the read
 pub returns-then-first-least : goal.returns-then-first-least
