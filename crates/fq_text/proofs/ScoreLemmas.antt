@@ -1,5 +1,5 @@
 -- Bytes that have a score, and the names of encodings.
-use Rattle.std.proofs.Common.{◌≡◌, ℕ, ◌+◌, ◌-◌, ◌<◌, ◌≤◌, Bool, true, ◌&&◌, eqb, Option, Some, unwrap_or, cond, List, [], ◌∷◌, length, take, drop, map, get_or, refl, ap, sym, ◌∙◌, arith}
+use Rattle.std.proofs.Common.{◌≡◌, ℕ, ◌+◌, ◌-◌, ◌<◌, ◌≤◌, Bool, true, ◌&&◌, eqb, Option, Some, unwrap_or, cond, List, [], ◌∷◌, ◌++◌, length, take, drop, map, get_or, refl, ap, sym, ◌∙◌, arith}
 use Rattle.std.proofs.lemmas.Slice.Eq.{bytes_eq-Decides}
 use Rattle.std.specs.Str.{bytes_eq}
 use Rattle.std.specs.List.{list_all}
@@ -54,6 +54,12 @@ table_at k b is place =
 pub recoded_scored : (e : Encoding) (b : ℕ) → is_scored e b ≡ true →
     is_scored Sanger (recoded e b) ≡ true
 recoded_scored e b is = grind (arith, common_steps)
+
+-- while the bytes are recoded one by one, the next of them has a score
+pub next_scored : (e : Encoding) (was now : List ℕ) (i : ℕ) → list_all (is_scored e) was ≡ true →
+    i < length was → now ≡ map (recoded e) (take i was) ++ drop i was →
+    is_scored e (get_or now i 0) ≡ true
+next_scored e was now i all within is = grind (arith, common_steps)
 
 -- bytes that all have a score all have one in Sanger's encoding after they are recoded
 pub all_recoded_scored : (e : Encoding) (bs : List ℕ) → list_all (is_scored e) bs ≡ true →

@@ -110,6 +110,7 @@ fn read_quality<F: Feed>(lines: &mut LineReader<F>, parts: &mut Parts) -> Result
 
 // Takes the next record if it is whole in hand as four unwrapped lines. `guess` is the number of
 // bases that is tried first.
+#[tactic(auto, using(std::proofs::lemmas::Grind::common_steps, crate::proofs::UnwrappedLemmas::taken_whole))]
 fn take_in_hand<F: Feed>(
     encoding: Encoding,
     guess: usize,

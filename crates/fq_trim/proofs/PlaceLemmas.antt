@@ -250,8 +250,8 @@ good_end : (w t : ℕ) (q : List ℕ) (k : ℕ) → t ≤ get_or q k 0 →
 good_end w t q k at good =
     grind (arith, common_steps, and_from, le-leb, all_places)
 
--- what a sliding window keeps, if the first bad window ends at index `good`, and `last` is after the
--- last score of at least t before that
+-- what a sliding window keeps, if the first bad window ends at index `good`, and `last` is after
+-- the last score of at least t before that
 pub window_kept : (w t n : ℕ) (q front : List ℕ) (good last : ℕ) → length q ≡ n → 0 < w → w ≤ n →
     IsGoodStop w (w * t) q good → w ≤ good → front ≡ take good q → last ≤ good →
     (0 < last → t ≤ get_or front (last - 1) 0) →

@@ -15,7 +15,7 @@ use Rattle.fq_text.specs.declared.unwrapped.Shape.{Shape}
 use Rattle.fq_text.specs.declared.encoding.Encoding.{Encoding}
 use Rattle.fq_text.specs.Devices.{FeedState}
 use Rattle.fq_text.proofs.AdvanceLemmas.{behind_line, behind_reads, reads_none}
-use Rattle.fq_text.proofs.UnwrappedLemmas.{taken_same, taken_whole}
+use Rattle.fq_text.proofs.UnwrappedLemmas.{taken_same}
 use Rattle.fq_text.proofs.WrittenLemmas.{not_lf, Ends, pieces_line, AreItsLines, sound_qual, four_lines, four, to_quality, ends_in_lf, clean_bases, plain_bases, plain_behind, quals_are_bases}
 use Rattle.fq_text.proofs.GrammarLemmas.{quality_goes, quality_ends}
 use Rattle.fq_text.proofs.LineLemmas.{whole_to}
@@ -260,7 +260,3 @@ returns-clause-found g c =
     (sym (taken_same e a.in_hand s first b.line line))
     (goes_first g.F.Feed.state a b e s (lines_len s) (took
     ∙ ap (λ n. behind_line a (lines_len s) n) used) first)
-
--- the bytes that were taken are enough for the four lines of the shape
-pub returns-clause-whole : goal.returns-clause-whole
-returns-clause-whole g c = grind (arith, common_steps, taken_whole)

@@ -1,7 +1,7 @@
-use Rattle.std.proofs.Common.{length, ◌-◌, ◌∙◌, sym, arith, leb, ◌≡◌, Bool, true, false, ◌&&◌, refl, ℕ, List, [], ◌∷◌, ap, ◌≤◌, ltb, ⊎_elim, map, ap₂, zero, suc, take, drop, ◌+◌, take-add}
+use Rattle.std.proofs.Common.{length, ◌-◌, ◌∙◌, sym, arith, leb, ◌≡◌, Bool, true, false, ◌&&◌, refl, ℕ, List, [], ◌∷◌, ap, ◌≤◌, ltb, ⊎_elim, map, ap₂, take, drop, ◌+◌, take-add}
 use Rattle.std.specs.List.{list_all}
 use lib.Lanes.{chunk, top, zip2, sel_l}
-use Rattle.std.proofs.lemmas.Bool.{and_from, and_parts, cases_Bool}
+use Rattle.std.proofs.lemmas.Bool.{and_parts, cases_Bool}
 use Rattle.std.proofs.lemmas.List.{length-drop, take_all, take-take}
 use Rattle.std.proofs.lemmas.List.Folds.{list_all-append}
 use Rattle.std.proofs.lemmas.Simd.{length-chunk}

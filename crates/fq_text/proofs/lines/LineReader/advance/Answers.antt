@@ -2,7 +2,7 @@ use Rattle.std.proofs.Common.{◌≡◌, ℕ, ◌+◌, ◌<◌, ◌≤◌, List,
 use Rattle.std.proofs.lemmas.List.{length-drop}
 use Rattle.std.proofs.lemmas.Grind.{common_steps}
 use Rattle.fq_text.specs.Reading.{Lined, NoLf}
-use Rattle.fq_text.proofs.AdvanceLemmas.{judged_as, sound_behind, takes_to, takes_all, long_taken, long_waiting}
+use Rattle.fq_text.proofs.AdvanceLemmas.{judged_as, sound_behind, takes_to, long_taken}
 use Rattle.fq_text.proofs.lines.LineReader.advance.Goals as goal
 
 -- the first line end is not among the bytes that hold none
@@ -27,12 +27,3 @@ returns-in-Some-clause-step g c =
     judged_as c.judged.result _ _ (length c.take_line.new.self.line) c.judged.ensures.ok
     c.judged.ensures.err (λ fits. (line, fits))
     (λ long. (refl, long_taken line (sound_behind _ _ is old.sound) long))
-
--- so many bytes without a line end belong to a line that is too long
-pub returns-then-scanned-clause-step : goal.returns-then-scanned-clause-step
-returns-then-scanned-clause-step g c = grind (arith, common_steps, long_waiting)
-
--- the feed has ended: the bytes in hand are the last line, which may be too long
-pub returns-then-self-clause-step : goal.returns-then-self-clause-step
-returns-then-self-clause-step g c =
-    grind (arith, common_steps, takes_all, judged_as, long_taken, sound_behind)
