@@ -36,6 +36,10 @@ none_set : (p : ℕ → Bool) (v : List ℕ) → eqb (mask_l (map p v)) 0 ≡ li
 none_set p [] = refl
 none_set p (x ∷ xs) = one_set (p x) (mask_l (map p xs)) ∙ ap (λ b. not (p x) && b) (none_set p xs)
 
+-- four conditions that are joined in another order
+pub both_in : (a b c d : Bool) → (a && b) && (c && d) ≡ (a && c) && (b && d)
+both_in a b c d = grind (arith, common_steps)
+
 not_not : (b : Bool) → not (not b) ≡ b
 not_not b = grind (arith, common_steps)
 

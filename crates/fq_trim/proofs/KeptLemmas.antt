@@ -1,6 +1,7 @@
 -- Places that steps keep are places of the read, and whether there are any.
-use Rattle.std.proofs.Common.{◌≡◌, ℕ, zero, suc, ◌+◌, ◌-◌, ◌<◌, ◌≤◌, Bool, true, false, cond, Option, Some, None, List, [], ◌∷◌, length, get_or, map, refl, subst, ap, ◌∙◌, arith}
+use Rattle.std.proofs.Common.{◌≡◌, ℕ, zero, suc, ◌+◌, ◌-◌, ◌<◌, ◌≤◌, Bool, true, false, Option, Some, None, List, [], ◌∷◌, length, get_or, map, refl, subst, ap, ◌∙◌, arith}
 use Rattle.std.proofs.lemmas.List.{length-map}
+use Rattle.std.proofs.lemmas.Grind.{common_steps}
 use Rattle.fq_text.specs.Scores.{value_of}
 use Rattle.fq_text.specs.Grammar.{Read}
 use Rattle.fq_trim.specs.declared.step.Step.{Step}
@@ -13,16 +14,12 @@ abbrev pub Below : ℕ → List ℕ → Type 0
 Below n [] = Unit {0}
 Below n (i ∷ is) = (i < n) × Below n is
 
-cond_below : (b : Bool) (n i : ℕ) (is : List ℕ) → i < n → Below n is → Below n (cond b (i ∷ is) is)
-cond_below true n i is lt below = (lt, below)
-cond_below false n i is lt below = below
-
 -- places selected from places below n are below n
 pub select_below : (test : ℕ → Bool) (j n : ℕ) (is : List ℕ) → Below n is →
     Below n (select test j is)
 select_below test j n [] below = tt
-select_below test j n (i ∷ is) below = cond_below (test j) n i (select test (suc j) is) below.0
-    (select_below test (suc j) n is below.1)
+select_below test j n (i ∷ is) below =
+    grind (arith, common_steps, select_below test (suc j) n is)
 
 -- the places that steps keep of places below n are below n
 pub kept_below : (steps : List Step) (q : List ℕ) (n : ℕ) (is : List ℕ) → Below n is →

@@ -106,19 +106,21 @@ step_alone step e qual lo hi b =
 -- The first index with a score.
 pub any_from : (t : ℕ) (q : List ℕ) (lo j : ℕ) → lo ≤ j → lo < length q → t ≤ get_or q lo 0 →
     list_any (leb t) (take (suc j) q) ≡ true
-any_from t [] lo j le lt at = absurd (omega arith)
-any_from t (x ∷ xs) zero j le lt at = or_left _ _ (le-leb t x at)
-any_from t (x ∷ xs) (suc lo) zero le lt at = absurd (omega arith)
-any_from t (x ∷ xs) (suc lo) (suc j) le lt at =
-    or_right _ _ (any_from t xs lo j (omega arith) (omega arith) at)
+any_from t q lo j le lt at =
+    let there = get_or-take (suc j) q lo 0 (omega arith) in
+    list_any_at (leb t) (take (suc j) q) lo 0 (omega (arith, length-take (suc j) q))
+    (le-leb t _ (omega arith))
+
+none_in : (t : ℕ) (q : List ℕ) → ((k : ℕ) → k < length q → get_or q k 0 < t) →
+    list_any (leb t) q ≡ false
+none_in t [] none = refl
+none_in t (x ∷ xs) none = or_from _ _ (lt-leb t x (none 0 (omega arith)))
+    (none_in t xs (λ k lt. none (suc k) (omega arith)))
 
 -- if each of the first n scores is below t, none of them is at least t
-pub none_to : (t : ℕ) (q : List ℕ) (n : ℕ) → ((k : ℕ) → k < n → get_or q k 0 < t) → n ≤ length q →
+pub none_to : (t : ℕ) (q : List ℕ) (n : ℕ) → ((k : ℕ) → k < n → get_or q k 0 < t) →
     list_any (leb t) (take n q) ≡ false
-none_to t q zero none le = refl
-none_to t [] (suc n) none le = absurd (omega arith)
-none_to t (x ∷ xs) (suc n) none le = or_from _ _ (lt-leb t x (none 0 (omega arith)))
-    (none_to t xs n (λ k lt. none (suc k) (omega arith)) (omega arith))
+none_to t q n none = grind (arith, common_steps, length-take, none_in, get_or-take)
 
 -- for any scores, LEADING keeps the bases from the first score of at least t on
 pub leading_between : (t : ℕ) (q : List ℕ) (n lo : ℕ) → length q ≡ n → lo ≤ n →
@@ -127,7 +129,7 @@ pub leading_between : (t : ℕ) (q : List ℕ) (n lo : ℕ) → length q ≡ n �
 leading_between t q n lo len le none at = record {
   order = le;
   within = omega arith;
-  before = λ k lt in_q. none_to t q (suc k) (λ m below. none m (omega arith)) (omega arith);
+  before = λ k lt in_q. none_to t q (suc k) (λ m below. none m (omega arith));
   inside = λ k from lt. any_from t q lo k from (omega arith) (at (omega arith));
   behind = λ k from lt. absurd (omega arith);
 }
@@ -141,12 +143,6 @@ any_behind t q k j le lt at =
     ∙ ap (λ n. get_or q n 0) there in
     let len = length-drop k q in
     list_any_at (leb t) (drop k q) (j - k) 0 (omega arith) (le-leb t _ (omega arith))
-
-none_in : (t : ℕ) (q : List ℕ) → ((k : ℕ) → k < length q → get_or q k 0 < t) →
-    list_any (leb t) q ≡ false
-none_in t [] none = refl
-none_in t (x ∷ xs) none = or_from _ _ (lt-leb t x (none 0 (omega arith)))
-    (none_in t xs (λ k lt. none (suc k) (omega arith)))
 
 none_behind : (t : ℕ) (q : List ℕ) (k : ℕ) → ((j : ℕ) → k ≤ j → j < length q → get_or q j 0 < t) →
     list_any (leb t) (drop k q) ≡ false

@@ -9,7 +9,7 @@ use Rattle.std.proofs.lemmas.Simd.{get_or-chunk, get_or-zip2, length-chunk}
 use Rattle.std.proofs.lemmas.Grind.{common_steps}
 use Rattle.fq_trim.specs.Windows.{distances, IsGoodStop, IsFirstBelow}
 use Rattle.fq_trim.proofs.PlaceLemmas.{high_window, sum_more, map_part}
-use Rattle.fq_text.proofs.VectorLemmas.{flag, mask_of}
+use Rattle.fq_text.proofs.VectorLemmas.{flag, mask_of, both_in}
 use native.Mathlib.Nat.{one-le-pow, two-pow-succ}
 use lib.Lanes.{Each1, zip2, sel_l, mask_l, chunk, top}
 
@@ -62,12 +62,6 @@ both_high : (score o x y : ℕ) → leb score (min x y - o) ≡ leb score (x - o
 both_high score o x y =
     grind (arith, common_steps, lt-leb, and_left, and_right, cases_lt, le-leb, and_from)
 
-in_pairs : (a b c d : Bool) → ((a && b) && (c && d)) ≡ ((a && c) && (b && d))
-in_pairs true true c d = refl
-in_pairs true false true d = refl
-in_pairs true false false d = refl
-in_pairs false b c d = refl
-
 all_both_high : (score o : ℕ) (v u : List ℕ) → length v ≡ length u →
     list_all (leb score) (distances o (zip2 min v u))
     ≡ list_all (leb score) (distances o v) && list_all (leb score) (distances o u)
@@ -75,7 +69,7 @@ all_both_high score o [] [] long = refl
 all_both_high score o [] (y ∷ ys) long = absurd (omega arith)
 all_both_high score o (x ∷ xs) [] long = absurd (omega arith)
 all_both_high score o (x ∷ xs) (y ∷ ys) long =
-    grind (arith, common_steps, both_high, in_pairs, all_both_high score o xs ys)
+    grind (arith, common_steps, both_high, both_in, all_both_high score o xs ys)
 
 -- so of 32 bytes, only the lower of two that are 16 apart is compared
 pub all_high_by_lower : (offset score : ℕ) (qual : List ℕ) {lower scores : List ℕ} →

@@ -8,13 +8,10 @@ use Rattle.std.proofs.lemmas.Simd.{length-chunk}
 use Rattle.std.proofs.lemmas.Grind.{common_steps}
 use Rattle.fq_text.specs.Scores.{is_from}
 use Rattle.fq_text.proofs.ScoreLemmas.{all_parts}
-use Rattle.fq_text.proofs.VectorLemmas.{flag}
+use Rattle.fq_text.proofs.VectorLemmas.{flag, both_in}
 use Rattle.fq_text.proofs.vectors.are_from.Goals as goal
 
 -- Conditions that are joined in another order.
-both_in : (a b c d : Bool) → (a && b) && (c && d) ≡ (a && c) && (b && d)
-both_in a b c d = grind (arith, common_steps)
-
 last_in_front : (t l c : Bool) → (t && l) && c ≡ (t && c) && l
 last_in_front t l c = grind (arith, common_steps)
 
