@@ -13,8 +13,8 @@ titled : {F : Type 0} {state : F → FeedState} {a b c : Lined F} (e : Encoding)
     Goes state a c (front e) (in_sequence parts.encoding parts.title [])
 titled {F} {state} {a} {b} {c} e parts more same is step =
     let found = subst (λ (found : Bool). FindsTitle state b c e parts found) is step in
-    subst (λ (r : Lined F). Goes state r c (front e) (in_sequence parts.encoding parts.title [])) same
-    (subst (λ x. Goes state b c (front e) (in_sequence x parts.title []))
+    subst (λ (r : Lined F). Goes state r c (front e) (in_sequence parts.encoding parts.title []))
+    same (subst (λ x. Goes state b c (front e) (in_sequence x parts.title []))
     (sym (ap (λ (r : Read). r.encoding) found.1)) found.0)
 
 -- a stop after the title is a stop as seen from before the title
