@@ -83,8 +83,6 @@ module _ (encoding : Encoding) (hand : List ℕ) (s : Shape)
   -- the last of these bytes has a score, so it is not CR
   lines_plain : without_cr (take (lines_len s) hand) ≡ take (lines_len s) hand
   lines_plain =
-      let fits = p.lines.fits in
-      let some = p.some in
       let start = s.title + s.bases + s.again + 3 * s.end + 2 in
       let behind : 1 + (s.title + s.bases + s.again + 3 * s.end + 1) ≡ start = omega arith in
       let qual : drop (s.title + s.bases + s.again + 3 * s.end + 1) (drop 1 hand)

@@ -36,7 +36,7 @@ places_below n a (suc m) le = (omega arith, places_below n (suc a) m (omega arit
 -- the last of some places
 last_below : (n a m : ℕ) → 0 < m → Below n (places a m) → a + m ≤ n
 last_below n a zero some below = absurd (omega arith)
-last_below n a (suc zero) some below = let first = below.0 in omega arith
+last_below n a (suc zero) some below = omega arith
 last_below n a (suc (suc m)) some below = let rest =
     last_below n (suc a) (suc m) (omega arith) below.1 in omega arith
 
@@ -48,7 +48,6 @@ kept_within_read steps read None same is = tt
 kept_within_read steps read (Some k) same is =
     let q = scores read.encoding read.qual in
     let size : length q ≡ length read.qual = length-map read.qual (value_of read.encoding) in
-    let order = k.some in
     let below : Below (length q) (places k.start (k.stop - k.start)) =
     subst (Below (length q)) is (kept_below steps q (length q) (places 0 (length q))
     (places_below (length q) 0 (length q) (omega arith))) in
@@ -62,7 +61,7 @@ some_places start (suc n) some = refl
 -- bases of the read are kept
 pub kept_survives : (at : List ℕ) (o : Option Kept) (k : Kept) → at ≡ places_of o → o ≡ Some k →
     is_empty at ≡ false
-kept_survives at o k is some_is = let some = k.some in ap is_empty (is ∙ ap places_of some_is)
+kept_survives at o k is some_is = ap is_empty (is ∙ ap places_of some_is)
     ∙ some_places k.start (k.stop - k.start) (omega arith)
 
 -- no bases of the read are kept

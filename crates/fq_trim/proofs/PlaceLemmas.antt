@@ -49,7 +49,6 @@ select_none test j (x ∷ xs) none = cond-false (test j) _ _ (none j (omega arit
 pub select_between : (test : ℕ → Bool) (a n lo hi : ℕ) → IsBetween test n lo hi →
     select test 0 (places a n) ≡ places (a + lo) (hi - lo)
 select_between test a n lo hi b =
-    let order = b.order in let within = b.within in
     let e : n ≡ lo + ((hi - lo) + (n - hi)) = omega arith in
     let first = places a lo in
     let mid = places (a + lo) (hi - lo) in
@@ -362,14 +361,11 @@ module _ (e : Encoding) (qual : List ℕ) where
       omega arith
 
 -- The first window that is summed is the one that ends at `from`. Each of the first `front` scores
--- is at least t.
-module _ (e : Encoding) (qual : List ℕ) (w t score front from total : ℕ) (score_is : score ≡ t)
+-- is at least `score`.
+module _ (e : Encoding) (qual : List ℕ) (w score front from total : ℕ)
     (fits : w ≤ length qual) (within : front ≤ length qual)
-    (high : list_all (leb t) (take front (scores e qual)) ≡ true) (from_is : from ≡ max front w)
+    (high : list_all (leb score) (take front (scores e qual)) ≡ true) (from_is : from ≡ max front w)
     (total_is : total ≡ sum (scores e (take (from - (from - w)) (drop (from - w) qual)))) where
-  least_is : w * score ≡ w * t
-  least_is = ap (λ n. w * n) score_is
-
   -- `total` is the sum of the window that ends at `from`
   pub from_sum : total ≡ sum (take w (drop (from - w) (scores e qual)))
   from_sum =
@@ -379,7 +375,7 @@ module _ (e : Encoding) (qual : List ℕ) (w t score front from total : ℕ) (sc
   window_up_to : (s : ℕ) → s + w ≤ from → (w * score ≤ sum (take w (drop s (scores e qual))))
       ⊎ (from ≡ w)
   window_up_to s le =
-      grind (arith, common_steps, least_is, length-scores, high_window)
+      grind (arith, common_steps, length-scores, high_window)
 
   -- if this window is good, each window that ends at or before `from` is good
   pub from_good : w * score ≤ total → (s : ℕ) → s + w ≤ from →

@@ -99,7 +99,6 @@ module _ (encoding : Encoding) (hand : List ℕ) (s : Shape) (p : IsFourLines ha
       let n = s.bases in
       let a = s.again in
       let e = s.end in
-      let fits = p.fits in
       let end = bytes_of is in
       let title = take t (drop 1 hand) in
       let seq = take n (drop (t + e + 1) hand) in
@@ -153,7 +152,6 @@ module _ (encoding : Encoding) (hand : List ℕ) (s : Shape) (p : IsFourLines ha
   -- the bytes used up to the end of such lines are complete lines
   whole_first : is_whole (take (four_len s) hand) ≡ true
   whole_first =
-      let fits = p.fits in
       let some : 0 < s.end = ⊎_elim (λ one. omega arith) (λ two. omega arith) is in
       let last = s.title + s.bases + s.bases + s.again + 3 * s.end + 2 + s.end - 1 in
       let len : four_len s ≡ suc last = omega arith in
@@ -215,7 +213,6 @@ found_in_hand : (encoding : Encoding) (hand : List ℕ) (s : Shape) (ls : List (
     ≡ Found (unwrapped encoding s (drop 1 hand)) ls
 found_in_hand encoding hand s ls p =
     let r = unwrapped encoding s (drop 1 hand) in
-    let fits = p.lines.fits in
     ap (λ xs. front encoding (lines xs ++ ls)) (lines_first encoding hand s p.lines p.shape.end)
     ∙ found_first (bytes_of p.shape.end) (take s.again (drop 1 hand)) r ls
     (its_lines encoding hand s p)

@@ -103,7 +103,6 @@ loop-start-init c = record {
 -- the least and the greatest bytes now check one more vector
 pub loop-start-preserved : goal.loop-start-preserved
 loop-start-preserved c =
-    let more = c.loop-start-test.true in
     let bytes = c.args.bytes.now in
     record {
       room = omega arith;
@@ -116,8 +115,6 @@ loop-start-preserved c =
 -- the vectors so far and the last one hold all bytes
 pub returns : goal.returns
 returns c =
-    let long = c.if-bytes-lt-WIDTH.false in
-    let past = c.loop-start-test.false in
     c.are_between.ensures
     ∙ c.loop-start.invariant.judged
     ∙ with_the_last (is_from c.args.lowest) c.loop-start.start (length c.args.bytes.now - 32) 32

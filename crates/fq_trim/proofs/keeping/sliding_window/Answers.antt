@@ -11,9 +11,6 @@ returns-then-good-width c =
     let w = c.args.width in
     let q = scores c.args.encoding c.args.qual.now in
     let found = c.good_stop-good.ensures in
-    let some = found.some in
-    let few = c.if-good-width.true in
-    let fits = c.if-qual-width.false in
     let len = length-scores c.args.encoding c.args.qual.now in
     let place : c.good_stop-good.result + 1 - w ≡ 0 = omega arith in
     let is = ap (λ n. sum (take w (drop n q))) place in
@@ -28,9 +25,7 @@ returns c =
     let good = c.good_stop-good.result in
     let last = c.after_last.ensures in
     let len = length-scores e qual in
-    let within = c.good_stop-good.ensures.within in
     let taken = length-take-le good qual (omega arith) in
-    let under = last.within in
     rw c.stop_at-2.ensures (window_kept c.args.width c.args.score (length qual) (scores e qual) _
     good c.after_last.result len c.requires.window c.if-qual-width.false c.good_stop-good.ensures
     c.if-good-width.false (sym (take-map (value_of e) good qual)) (omega arith) last.high

@@ -29,7 +29,6 @@ returns-else-high-eq0 c =
     let mask =
     mask_of (leb score) turned (omega arith)
     (zip2_splat_left (λ a b. flag (leb a b)) score 16 turned long) in
-    let some = c.if-high-eq0.false in
     let set : 0 < mask_l (map (leb score) turned) = omega arith in
     subst (IsLowEnd score c.args.scores) (sym (ap (count_trailing_zeros 64) mask
     ∙ trailing_mask_l (leb score) 64 turned (omega arith) set))

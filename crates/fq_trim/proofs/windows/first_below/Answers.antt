@@ -22,7 +22,6 @@ returns-else-below-eq0 c =
     let sums = c.args.sums in
     let least = c.args.least in
     let mask = bitmask_splat w8 ltb sums 32 least c.fits-sums.0 (omega arith) in
-    let some = c.if-below-eq0.false in
     let set : 0 < mask_l (map (λ x. ltb x least) sums) = omega arith in
     subst (IsFirstBelow least sums) (sym (ap (count_trailing_zeros 64) mask
     ∙ trailing_mask_l (λ x. ltb x least) 64 sums (omega arith) set)) (first_below least sums)

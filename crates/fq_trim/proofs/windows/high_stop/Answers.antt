@@ -10,7 +10,6 @@ pub loop-stop-preserved : goal.loop-stop-preserved
 loop-stop-preserved c =
     let stop = c.loop-stop.stop in
     let q = scores c.args.encoding c.args.qual.now in
-    let room = c.loop-stop-test.true in
     let within = c.loop-stop.invariant.within in
     let size : stop + HIGH_CHUNK - stop ≡ HIGH_CHUNK = omega arith in
     let next : list_all (nat_le c.args.score) (take HIGH_CHUNK (drop stop q)) ≡ true =

@@ -28,7 +28,6 @@ returns-then-sum-least c =
     let next = next_window c.args.encoding c.args.qual.now c.args.width c.loop-end.end
     from c.loop-end-test.true in
     let len = length-scores c.args.encoding c.args.qual.now in
-    let low = c.if-sum-least.true in
     record {
       within = omega arith;
       some = omega arith;
@@ -46,7 +45,6 @@ loop-end-preserved c =
     let from = old.from in
     let next = next_window c.args.encoding c.args.qual.now w end from
     c.loop-end-test.true in
-    let high = c.if-sum-least.false in
     record {
       from = omega arith;
       total = omega arith;

@@ -14,9 +14,7 @@ loop-i-init c = record {
 -- each sum is now that of one more base
 pub loop-i-preserved : goal.loop-i-preserved
 loop-i-preserved c =
-    let fits = c.requires.fits in
     let old = c.loop-i.invariant in
-    let more = c.loop-i-test.true in
     let less = λ (byte : ℕ). byte - c.args.offset in
     let q = map less c.args.qual.now in
     let len = length-map c.args.qual.now less in

@@ -21,7 +21,6 @@ returns-in-Some-clause-step g c =
     let hand = ap (λ (r : Lined g.row.F.Denot). length r.in_hand) is
     ∙ length-drop (at + 1) c.loop-at.self.in_hand in
     let chunk = ap (λ (r : Lined g.row.F.Denot). r.chunk) is in
-    let same = old.reads.chunk in
     let line = takes_to at is old.reads c.in-Some.ensures.place
     (λ lt. let room = old.small lt in omega arith) in
     judged_as c.judged.result _ _ (length c.take_line.new.self.line) c.judged.ensures.ok
