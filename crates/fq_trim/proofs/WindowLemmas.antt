@@ -153,7 +153,6 @@ good_from offset w least start n qual before there s lt = ⊎_elim (before s)
     let place : start + (s - start) ≡ s = omega arith in
     let is = window_behind offset start (s - start) w qual
     ∙ ap (λ n. sum (take w (drop n (distances offset qual)))) place in
-    let good = there (s - start) (omega arith) in
     omega arith)
     (cases_lt s start)
 

@@ -152,7 +152,6 @@ module _ (encoding : Encoding) (hand : List ℕ) (s : Shape) (p : IsFourLines ha
   -- the bytes used up to the end of such lines are complete lines
   whole_first : is_whole (take (four_len s) hand) ≡ true
   whole_first =
-      let some : 0 < s.end = ⊎_elim (λ one. omega arith) (λ two. omega arith) is in
       let last = s.title + s.bases + s.bases + s.again + 3 * s.end + 2 + s.end - 1 in
       let len : four_len s ≡ suc last = omega arith in
       ap (λ m. is_whole (take m hand)) len ∙ whole_to hand last (omega arith) p.ends.qual.lf

@@ -9,7 +9,6 @@ pub overflow_add-sum : goal.overflow_add-sum
 overflow_add-sum c =
     let small = part_small c.args.encoding c.args.qual.now (c.loop-end.end - c.args.width)
     c.args.width c.requires.scored in
-    let entering = part_small c.args.encoding c.args.qual.now c.loop-end.end 1 c.requires.scored in
     omega arith
 
 -- the score that leaves the window is part of the sum
