@@ -42,26 +42,6 @@ fn a_send_stops_at_the_first_failure(rt: HostRuntime) {
 }
 
 #[test]
-fn no_bytes_make_no_write(rt: HostRuntime) {
-    let mut outlet = ScriptOutlet::new(rt.alloc(), 1, 1, false);
-    assert_answer(&rt, &mut outlet, Asked::Send(b"", Ok(())), 0);
-    assert_answer(
-        &rt,
-        &mut outlet,
-        Asked::Send(b"a", Err(Sent { count: 0 })),
-        1,
-    );
-}
-
-#[test]
-fn a_flush_fails_if_it_should(rt: HostRuntime) {
-    let mut outlet = ScriptOutlet::new(rt.alloc(), 1, 0, true);
-    assert_answer(&rt, &mut outlet, Asked::Flush(Err(OutletFailed)), 1);
-    let mut outlet = ScriptOutlet::new(rt.alloc(), 1, 0, false);
-    assert_answer(&rt, &mut outlet, Asked::Flush(Ok(())), 0);
-}
-
-#[test]
 fn failures_have_texts(rt: HostRuntime) -> Result<(), Fail> {
     let text = format!(in rt.alloc(); "{}", Sent { count: 4 })?;
     assert_eq!(rt; text.as_str(), "the outlet failed after 4 bytes");
@@ -157,16 +137,6 @@ fn errors_have_the_systems_number(rt: HostRuntime) {
     assert_eq!(rt; SystemError::of(full), SystemError { number: 28 });
     let other = io::Error::from(ErrorKind::StorageFull);
     assert_eq!(rt; SystemError::of(other), SystemError { number: 0 });
-}
-
-#[test]
-fn first_bytes_show_what_a_file_is(rt: HostRuntime) {
-    assert_eq!(rt; Look::of(b"\x1f\x8b"), Look::Gzip);
-    assert_eq!(rt; Look::of(b"\x1f"), Look::Unknown);
-    assert_eq!(rt; Look::of(b"BAM\x01x"), Look::Bam);
-    assert_eq!(rt; Look::of(b">"), Look::Fasta);
-    assert_eq!(rt; Look::of(b"@p\n"), Look::Unknown);
-    assert_eq!(rt; Look::of(b""), Look::Unknown);
 }
 
 #[test]

@@ -140,7 +140,6 @@ module _ (encoding : Encoding) where
       let first = passed (title_fault (b ∷ bs)) _ r behind is in
       let second = passed (sequence_faults 0 (before_plus ls)) _ r behind first.1 in
       let bases = sound_bases 0 (before_plus ls) (omega arith) second.0 in
-      let fits = bases.fits in
       let quality = found_quality bs (concat (before_plus ls)) (from_plus ls) r behind second.1 in
       let short =
       ltb-false limit (length (b ∷ bs)) (unfaulted (is_too_long (b ∷ bs)) fault.TooLong _

@@ -1,7 +1,7 @@
 -- The bytes in hand, as a part of a buffer.
 use Rattle.std.proofs.Common.{◌≡◌, ℕ, ◌+◌, ◌-◌, ◌≤◌, List, ◌++◌, length, take, drop, arith, ap, sym, ◌∙◌, append_assoc}
 use Rattle.std.proofs.Math.Seq.{take-add}
-use Rattle.std.proofs.lemmas.List.{take-take, take_at, drop_at, take-append-le, drop-append-le, drop-take, drop-drop, length-take}
+use Rattle.std.proofs.lemmas.List.{take-take, take_at, drop_at, take-append-le, drop-append-le, drop-take, drop-drop, length-take, length-drop, length-take-le, take_rest, take-append-drop}
 use Rattle.std.proofs.lemmas.Grind.{common_steps}
 use Rattle.fq_text.specs.Devices.{FeedState}
 use Rattle.fq_text.specs.Lines.{without_cr}
@@ -15,6 +15,24 @@ pub written_behind : (grown wrote past other before : List ℕ) (filled n room :
     ≡ before ++ take n wrote
 written_behind grown wrote past other before filled n room is same fits within =
     grind (arith, common_steps, append_assoc, take-take, take-add, take_at, drop_at, take-append-le)
+
+-- what a write that begins at index `sent` adds to what was sent before
+pub sent_more : (start before after bytes : List ℕ) (sent n : ℕ) →
+    before ≡ start ++ take sent bytes →
+    after ≡ before ++ take n (take (length bytes - sent) (drop sent bytes)) →
+    after ≡ start ++ take (sent + n) bytes
+sent_more start before after bytes sent n was is =
+    grind (arith, common_steps, append_assoc, take_rest, take-add)
+
+-- the front of what is left, and what is left then
+pub parted : (xs new buf : List ℕ) (at n : ℕ) → new ≡ take n (take (length xs - at) (drop at xs)) →
+    n ≤ length xs - at →
+    drop at xs ≡ take n (new ++ buf) ++ drop (at + n) xs
+parted xs new buf at n is le =
+    let short : n ≤ length (drop at xs) = omega (arith, length-drop at xs) in
+    let front : new ≡ take n (drop at xs) = is ∙ take-take n (length xs - at) (drop at xs) le in
+    let len : length new ≡ n = ap length front ∙ length-take-le n (drop at xs) short in
+    rw (take_at new buf n len, front, ← drop-drop n at xs) (sym (take-append-drop n (drop at xs)))
 
 -- some of the bytes in hand are used
 drop_hand : (bytes : List ℕ) (start filled used : ℕ) → used ≤ filled - start →

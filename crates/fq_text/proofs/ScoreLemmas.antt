@@ -1,9 +1,11 @@
 -- Bytes that have a score, and the names of encodings.
-use Rattle.std.proofs.Common.{◌≡◌, ℕ, ◌+◌, ◌-◌, ◌<◌, ◌≤◌, Bool, true, eqb, Option, Some, unwrap_or, cond, List, [], ◌∷◌, length, map, get_or, refl, ap, sym, ◌∙◌, arith}
+use Rattle.std.proofs.Common.{◌≡◌, ℕ, ◌+◌, ◌-◌, ◌<◌, ◌≤◌, Bool, true, ◌&&◌, eqb, Option, Some, unwrap_or, cond, List, [], ◌∷◌, ◌++◌, length, take, drop, map, get_or, refl, ap, sym, ◌∙◌, arith}
 use Rattle.std.proofs.lemmas.Slice.Eq.{bytes_eq-Decides}
 use Rattle.std.specs.Str.{bytes_eq}
 use Rattle.std.specs.List.{list_all}
 use Rattle.std.proofs.lemmas.Bool.{cases_Bool, and_parts, and_from, leb-true, eqb-true, agree_below, agree_below_at}
+use Rattle.std.proofs.lemmas.List.{take-append-drop}
+use Rattle.std.proofs.lemmas.List.Folds.{list_all-append}
 use Rattle.std.proofs.lemmas.Grind.{common_steps}
 use Rattle.fq_text.specs.declared.encoding.Encoding.{Encoding}
 use Rattle.fq_text.specs.declared.encoding.Encoding.TheVariants.{Sanger, Solexa}
@@ -14,6 +16,12 @@ use Rattle.fq_text.specs.Scores.{lowest, is_scored, phred_of_solexa, value_of, r
 pub at_place : (p : ℕ → Bool) (xs : List ℕ) (i : ℕ) → list_all p xs ≡ true → i < length xs →
     p (get_or xs i 0) ≡ true
 at_place p xs i all within = grind (arith, common_steps)
+
+-- all members pass exactly if the first n do, and those after them
+pub all_parts : {T : Type 0} (p : T → Bool) (n : ℕ) (xs : List T) →
+    list_all p xs ≡ list_all p (take n xs) && list_all p (drop n xs)
+all_parts p n xs = ap (list_all p) (sym (take-append-drop n xs))
+    ∙ list_all-append p (take n xs) (drop n xs)
 
 -- no encoding has a score below byte 33
 pub low_base : (e : Encoding) → 33 ≤ lowest e
@@ -46,6 +54,12 @@ table_at k b is place =
 pub recoded_scored : (e : Encoding) (b : ℕ) → is_scored e b ≡ true →
     is_scored Sanger (recoded e b) ≡ true
 recoded_scored e b is = grind (arith, common_steps)
+
+-- while the bytes are recoded one by one, the next of them has a score
+pub next_scored : (e : Encoding) (was now : List ℕ) (i : ℕ) → list_all (is_scored e) was ≡ true →
+    i < length was → now ≡ map (recoded e) (take i was) ++ drop i was →
+    is_scored e (get_or now i 0) ≡ true
+next_scored e was now i all within is = grind (arith, common_steps)
 
 -- bytes that all have a score all have one in Sanger's encoding after they are recoded
 pub all_recoded_scored : (e : Encoding) (bs : List ℕ) → list_all (is_scored e) bs ≡ true →

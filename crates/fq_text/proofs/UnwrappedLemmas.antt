@@ -1,7 +1,6 @@
 -- A record of four lines at the front of some bytes.
-use Rattle.std.proofs.Common.{◌≡◌, ℕ, zero, suc, ◌+◌, ◌-◌, ◌*◌, ◌<◌, ◌≤◌, Bool, true, false, not, eqb, ⊎_elim, List, [], ◌∷◌, length, take, drop, get_or, refl, ap, sym, subst, ◌∙◌, arith}
+use Rattle.std.proofs.Common.{◌≡◌, ℕ, zero, suc, ◌+◌, ◌-◌, ◌*◌, ◌<◌, ◌≤◌, Bool, true, false, not, eqb, ⊎_elim, List, length, take, drop, get_or, refl, ap, sym, subst, ◌∙◌, arith}
 use Rattle.std.specs.List.{list_all}
-use Rattle.std.proofs.lemmas.Bool.{cases_Bool, and_from, not_from_false, eqb-true}
 use Rattle.std.proofs.lemmas.List.{drop-drop, get_or-drop, get_or-take, take-take, drop-take, length-take, length-drop}
 use Rattle.std.proofs.lemmas.Grind.{common_steps}
 use Rattle.fq_text.specs.declared.encoding.Encoding.{Encoding}
@@ -33,17 +32,6 @@ unwrapped_front encoding bytes s k le =
 not_at : (test : ℕ → Bool) (b n : ℕ) (xs : List ℕ) → test b ≡ false → n ≤ length xs →
     list_all test (take n xs) ≡ true → (k : ℕ) → k < n → get_or xs k 0 ≡ b → ⊥
 not_at test b n xs fails within passes k lt is = grind (arith, common_steps)
-
--- if no LF is below index n, every byte there is another one
-pub one_line_to : (n : ℕ) (xs : List ℕ) → NoLf xs n →
-    list_all (λ b. not (eqb b 10)) (take n xs) ≡ true
-one_line_to zero xs none = refl
-one_line_to (suc n) [] none = refl
-one_line_to (suc n) (x ∷ xs) none = ⊎_elim
-    (λ here. absurd (none 0 (omega arith) (eqb-true x 10 here)))
-    (λ off. and_from _ _ (not_from_false _ off)
-    (one_line_to n xs (λ k lt is. none (suc k) (omega arith) is)))
-    (cases_Bool (eqb x 10))
 
 -- there is one first LF
 one_end : (xs : List ℕ) (a b : ℕ) → NoLf xs a → get_or xs a 0 ≡ 10 → NoLf xs b →
@@ -95,8 +83,6 @@ module _ (encoding : Encoding) (hand : List ℕ) (s : Shape)
   -- the last of these bytes has a score, so it is not CR
   lines_plain : without_cr (take (lines_len s) hand) ≡ take (lines_len s) hand
   lines_plain =
-      let fits = p.lines.fits in
-      let some = p.some in
       let start = s.title + s.bases + s.again + 3 * s.end + 2 in
       let behind : 1 + (s.title + s.bases + s.again + 3 * s.end + 1) ≡ start = omega arith in
       let qual : drop (s.title + s.bases + s.again + 3 * s.end + 1) (drop 1 hand)

@@ -32,36 +32,26 @@ twice m = grind (arith, common_steps)
 one_set : (b : Bool) (m : ℕ) → eqb (cond b 1 0 + 2 * m) 0 ≡ not b && eqb m 0
 one_set b m = grind (arith, common_steps, ne_eqb, eqb, twice)
 
-none_set : (p : ℕ → Bool) (v : List ℕ) → eqb (mask_l (map p v)) 0 ≡ list_all (λ x. not (p x)) v
-none_set p [] = refl
-none_set p (x ∷ xs) = one_set (p x) (mask_l (map p xs)) ∙ ap (λ b. not (p x) && b) (none_set p xs)
+none_set : (p q : ℕ → Bool) → ((x : ℕ) → not (p x) ≡ q x) → (v : List ℕ) →
+    eqb (mask_l (map p v)) 0 ≡ list_all q v
+none_set p q same [] = refl
+none_set p q same (x ∷ xs) = one_set (p x) (mask_l (map p xs))
+    ∙ ap₂ (λ a b. a && b) (same x) (none_set p q same xs)
+
+-- four conditions that are joined in another order
+pub both_in : (a b c d : Bool) → (a && b) && (c && d) ≡ (a && c) && (b && d)
+both_in a b c d = grind (arith, common_steps)
 
 not_not : (b : Bool) → not (not b) ≡ b
 not_not b = grind (arith, common_steps)
 
-none_by_mask : (p : ℕ → Bool) (v : List ℕ) {z : List ℕ} → length v ≤ 64 →
-    z ≡ map (λ x. flag (p x)) v → not (not (eqb (mask_l (map (top 7) z) % 2 ^ 64) 0)) ≡ list_all
-    (λ x. not (p x)) v
-none_by_mask p v short is = not_not (eqb (mask_l (map (top 7) _) % 2 ^ 64) 0)
-    ∙ ap (λ m. eqb m 0) (mask_of p v short is) ∙ none_set p v
-
-not_less : (x y : ℕ) → not (ltb x y) ≡ leb y x
+-- a number is not below another exactly if it is at least that
+pub not_less : (x y : ℕ) → not (ltb x y) ≡ leb y x
 not_less x y = grind (arith, common_steps)
 
-same_of_each : (p q : ℕ → Bool) → ((x : ℕ) → p x ≡ q x) → (v : List ℕ) → list_all p v ≡ list_all q v
-same_of_each p q same [] = refl
-same_of_each p q same (x ∷ xs) = ap₂ (λ a b. a && b) (same x) (same_of_each p q same xs)
-
--- whether each byte is at least `low`, by the mask of those that are not
-pub all_at_least : (low : ℕ) (v : List ℕ) {below : List ℕ} → length v ≤ 64 →
-    below ≡ map (λ x. flag (ltb x low)) v →
-    not (not (eqb (mask_l (map (top 7) below) % 2 ^ 64) 0)) ≡ list_all (λ x. leb low x) v
-all_at_least low v short is = none_by_mask (λ x. ltb x low) v short is
-    ∙ same_of_each (λ x. not (ltb x low)) (λ x. leb low x) (λ x. not_less x low) v
-
--- whether each byte is at most `high`, by the mask of those that are not
-pub all_at_most : (high : ℕ) (v : List ℕ) {above : List ℕ} → length v ≤ 64 →
-    above ≡ map (λ x. flag (ltb high x)) v →
-    not (not (eqb (mask_l (map (top 7) above) % 2 ^ 64) 0)) ≡ list_all (λ x. leb x high) v
-all_at_most high v short is = none_by_mask (λ x. ltb high x) v short is
-    ∙ same_of_each (λ x. not (ltb high x)) (λ x. leb x high) (λ x. not_less high x) v
+-- whether each byte passes, by the mask of those that fail
+pub all_by_mask : (fails passes : ℕ → Bool) → ((x : ℕ) → not (fails x) ≡ passes x) →
+    (v : List ℕ) {z : List ℕ} → length v ≤ 64 → z ≡ map (λ x. flag (fails x)) v →
+    not (not (eqb (mask_l (map (top 7) z) % 2 ^ 64) 0)) ≡ list_all passes v
+all_by_mask fails passes same v short is = not_not (eqb (mask_l (map (top 7) _) % 2 ^ 64) 0)
+    ∙ ap (λ m. eqb m 0) (mask_of fails v short is) ∙ none_set fails passes same v

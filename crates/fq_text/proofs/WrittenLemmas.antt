@@ -6,7 +6,7 @@ use Rattle.fq_text.specs.declared.encoding.Encoding.{Encoding}
 use Rattle.std.proofs.lemmas.List.{length-map}
 use Rattle.std.proofs.lemmas.Grind.{common_steps}
 use Rattle.fq_text.specs.Scores.{is_scored}
-use Rattle.fq_text.specs.Lines.{pieces, before_first_piece, without_cr, lines}
+use Rattle.fq_text.specs.Lines.{pieces, without_cr, lines}
 use Rattle.fq_text.specs.Grammar.{limit, is_base, IsLawful, Read, Found, front, begins_with, title_fault, sequence_fault, plus_fault, quality_fault}
 use Rattle.fq_text.specs.Phases.{in_quality}
 use Rattle.fq_text.specs.Written.{written, as_written, CanRecode, ReadsBack}

@@ -10,6 +10,7 @@ use std::alloc::{AllocError, Global};
 use std::marker::Model;
 
 /// The length of a piece without the one CR that it may end with.
+#[tactic(auto, using(std::proofs::lemmas::Grind::common_steps, crate::proofs::LineLemmas::without_cr_yes, crate::proofs::LineLemmas::without_cr_no, std::proofs::lemmas::List::take_all))]
 pub(crate) fn len_without_cr(piece: &[u8]) -> usize
     ensures within { result ≤ length piece.now }
     ensures line { without_cr piece.now ≡ take result piece.now }
@@ -127,6 +128,7 @@ impl Buffer {
 
     /// Takes the next line: the first `len` bytes in hand, without a CR at their end. `used` is its
     /// length with the line end.
+    #[tactic(auto, using(std::proofs::lemmas::Grind::common_steps, crate::proofs::ReadLemmas::line_of_hand, crate::proofs::ReadLemmas::hand_used))]
     pub(crate) fn use_line(&mut self, len: usize, used: usize)
         requires within { len ≤ used }
         requires in_hand { used ≤ length self.old.in_hand }

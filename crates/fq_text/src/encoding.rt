@@ -135,6 +135,7 @@ impl Encoding {
     }
 
     // Replaces each byte by the byte that has the same score at offset 33.
+    #[tactic(auto, using(std::proofs::lemmas::Grind::common_steps, crate::proofs::ScoreLemmas::next_scored, crate::proofs::ScoreLemmas::value_small))]
     pub(crate) fn recode(self, bytes: &mut [u8])
         requires { list_all (is_scored self) bytes.old ≡ true }
         ensures { bytes.new ≡ map (recoded self) bytes.old }
@@ -146,6 +147,7 @@ impl Encoding {
 }
 
 // The Phred score that the table at [`Encoding::Solexa`] has for the Solexa score `byte - 64`.
+#[tactic(auto, using(crate::proofs::ScoreLemmas::table_at))]
 fn phred_of_solexa(byte: u8) -> u8
     requires { is_scored Solexa byte ≡ true }
     ensures { result ≡ value_of Solexa byte }

@@ -103,6 +103,7 @@ impl ScriptFeed {
 impl Feed for ScriptFeed {
     ghost state = { λ f. record { tells = true; to_come = f.bytes; failures = f.failures } };
 
+    #[tactic(auto, using(std::proofs::lemmas::Grind::common_steps, crate::proofs::ReadLemmas::parted))]
     fn read(&mut self, buf: &mut [u8]) -> Result<usize, FeedFailed>
         requires { self.old.failures < u64.MAX }
 

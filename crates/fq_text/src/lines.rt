@@ -140,6 +140,7 @@ impl<F: Feed> LineReader<F> {
     }
 
     /// Reads the next line. Returns `false` at the end of the text.
+    #[tactic(auto, using(std::proofs::lemmas::Grind::common_steps, crate::proofs::AdvanceLemmas::takes_all, crate::proofs::AdvanceLemmas::judged_as, crate::proofs::AdvanceLemmas::long_taken, crate::proofs::AdvanceLemmas::long_waiting, crate::proofs::AdvanceLemmas::sound_behind))]
     pub(crate) fn advance(&mut self) -> Result<bool, ReadError>
         requires failures { (F.state self.old.feed).failures < u64.MAX }
         requires sound { IsSound F.state self.old }

@@ -213,6 +213,7 @@ pub struct Sent {
 ///
 /// It stops at the first failure: the outlet has then taken the first `count` bytes, and has failed
 /// once in this call.
+#[tactic(auto, using(std::proofs::lemmas::Grind::common_steps, crate::proofs::ReadLemmas::sent_more))]
 pub fn send<O: Outlet>(outlet: &mut O, bytes: &[u8]) -> Result<(), Sent>
     requires { (O.state outlet.old).failures < u64.MAX }
     ensures ok { OnOk result (IsSome (O.state outlet.old).file

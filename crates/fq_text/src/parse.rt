@@ -6,8 +6,7 @@ ghost use Rattle.fq_text.specs.Reading.{IsSound, fails};
 ghost use Rattle.fq_text.specs.Unwrapped.{unwrapped, lines_len, BeginsWithRecord};
 ghost use Rattle.fq_text.specs.declared.parse.Place.TheVariants.{Joined};
 ghost use Rattle.fq_text.specs.declared.unwrapped.Shape.{Shape};
-ghost use Rattle.fq_text.specs.Phases.{in_sequence, in_quality, Goes, Stops, FindsTitle, FindsPlus, FindsRecord, FindsRest};
-ghost use Rattle.fq_text.specs.Phases.{FindsNext, current_at, IsPlace};
+ghost use Rattle.fq_text.specs.Phases.{in_sequence, in_quality, Goes, Stops, FindsTitle, FindsPlus, FindsRecord, FindsRest, FindsNext, current_at, IsPlace};
 
 use crate::encoding::Encoding;
 use crate::fault::{Fault, ReadError};
@@ -110,6 +109,7 @@ fn read_quality<F: Feed>(lines: &mut LineReader<F>, parts: &mut Parts) -> Result
 
 // Takes the next record if it is whole in hand as four unwrapped lines. `guess` is the number of
 // bases that is tried first.
+#[tactic(auto, using(std::proofs::lemmas::Grind::common_steps, crate::proofs::UnwrappedLemmas::taken_whole))]
 fn take_in_hand<F: Feed>(
     encoding: Encoding,
     guess: usize,

@@ -1,6 +1,6 @@
 //! Records that own their bytes.
 
-ghost use Rattle.std.specs.Prelude.{◌≡◌, ◌++◌, [], IfOk, OnOk, OnErr};
+ghost use Rattle.std.specs.Prelude.{◌≡◌, ◌++◌, [], OnOk, OnErr};
 
 use crate::encoding::Encoding;
 use crate::memory::OutOfMemory;
@@ -166,16 +166,6 @@ impl FastqRecord {
         FastqRecord {
             parts: Parts::new(alloc, encoding),
         }
-    }
-
-    /// A copy of a read, which does not depend on the record or block that the read is borrowed
-    /// from. The only error is that memory was refused.
-    pub fn copy_of(alloc: Global, read: &ReadView<'_>) -> Result<FastqRecord, OutOfMemory>
-        ensures { IfOk result (λ copy. copy ≡ read.now) }
-    {
-        let mut copy = FastqRecord::empty(alloc, read.encoding());
-        copy.copy_from(read)?;
-        Ok(copy)
     }
 
     /// Makes this record a copy of a read. Memory is asked for only if no record that it held

@@ -189,6 +189,7 @@ fn line_end(text: &[u8]) -> Option<usize>
 }
 
 // The lengths of the first line and of its line end. A CR before the LF belongs to the line end.
+#[tactic(auto, using(std::proofs::lemmas::Grind::common_steps, crate::proofs::UnwrappedLemmas::plain_to))]
 fn first_line(text: &[u8]) -> Option<FirstLine>
     ensures found { IfSome result (λ l. IsFirstLine text.now l.len l.end) }
     ensures none { result ≡ None → NoLf text.now (length text.now) }

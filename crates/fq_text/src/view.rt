@@ -11,6 +11,7 @@ use memchr::memchr;
 use std::marker::Model;
 
 // Whether a title is one line: it has no LF.
+#[tactic(auto, using(crate::proofs::LineLemmas::none_found))]
 fn is_one_line(title: &[u8]) -> bool
     ensures { result ≡ list_all (λ b. not (b == line_feed)) title.now }
 {

@@ -1,6 +1,7 @@
 -- Places that steps keep are places of the read, and whether there are any.
-use Rattle.std.proofs.Common.{◌≡◌, ℕ, zero, suc, ◌+◌, ◌-◌, ◌<◌, ◌≤◌, Bool, true, false, cond, Option, Some, None, List, [], ◌∷◌, length, get_or, map, refl, subst, ap, ◌∙◌, arith}
+use Rattle.std.proofs.Common.{◌≡◌, ℕ, zero, suc, ◌+◌, ◌-◌, ◌<◌, ◌≤◌, Bool, true, false, Option, Some, None, List, [], ◌∷◌, length, get_or, map, refl, subst, ap, ◌∙◌, arith}
 use Rattle.std.proofs.lemmas.List.{length-map}
+use Rattle.std.proofs.lemmas.Grind.{common_steps}
 use Rattle.fq_text.specs.Scores.{value_of}
 use Rattle.fq_text.specs.Grammar.{Read}
 use Rattle.fq_trim.specs.declared.step.Step.{Step}
@@ -13,16 +14,12 @@ abbrev pub Below : ℕ → List ℕ → Type 0
 Below n [] = Unit {0}
 Below n (i ∷ is) = (i < n) × Below n is
 
-cond_below : (b : Bool) (n i : ℕ) (is : List ℕ) → i < n → Below n is → Below n (cond b (i ∷ is) is)
-cond_below true n i is lt below = (lt, below)
-cond_below false n i is lt below = below
-
 -- places selected from places below n are below n
 pub select_below : (test : ℕ → Bool) (j n : ℕ) (is : List ℕ) → Below n is →
     Below n (select test j is)
 select_below test j n [] below = tt
-select_below test j n (i ∷ is) below = cond_below (test j) n i (select test (suc j) is) below.0
-    (select_below test (suc j) n is below.1)
+select_below test j n (i ∷ is) below =
+    grind (arith, common_steps, select_below test (suc j) n is)
 
 -- the places that steps keep of places below n are below n
 pub kept_below : (steps : List Step) (q : List ℕ) (n : ℕ) (is : List ℕ) → Below n is →
@@ -39,7 +36,7 @@ places_below n a (suc m) le = (omega arith, places_below n (suc a) m (omega arit
 -- the last of some places
 last_below : (n a m : ℕ) → 0 < m → Below n (places a m) → a + m ≤ n
 last_below n a zero some below = absurd (omega arith)
-last_below n a (suc zero) some below = let first = below.0 in omega arith
+last_below n a (suc zero) some below = omega arith
 last_below n a (suc (suc m)) some below = let rest =
     last_below n (suc a) (suc m) (omega arith) below.1 in omega arith
 
@@ -51,7 +48,6 @@ kept_within_read steps read None same is = tt
 kept_within_read steps read (Some k) same is =
     let q = scores read.encoding read.qual in
     let size : length q ≡ length read.qual = length-map read.qual (value_of read.encoding) in
-    let order = k.some in
     let below : Below (length q) (places k.start (k.stop - k.start)) =
     subst (Below (length q)) is (kept_below steps q (length q) (places 0 (length q))
     (places_below (length q) 0 (length q) (omega arith))) in
@@ -65,7 +61,7 @@ some_places start (suc n) some = refl
 -- bases of the read are kept
 pub kept_survives : (at : List ℕ) (o : Option Kept) (k : Kept) → at ≡ places_of o → o ≡ Some k →
     is_empty at ≡ false
-kept_survives at o k is some_is = let some = k.some in ap is_empty (is ∙ ap places_of some_is)
+kept_survives at o k is some_is = ap is_empty (is ∙ ap places_of some_is)
     ∙ some_places k.start (k.stop - k.start) (omega arith)
 
 -- no bases of the read are kept

@@ -1,6 +1,5 @@
 pub mod PlaceLemmas
 pub mod WordLemmas
-pub mod ParseLemmas
 pub mod WorkedExamples
 pub mod WindowLemmas
 pub mod LowEndLemmas

@@ -1,10 +1,12 @@
 -- Low scores at the end, in a reversed vector.
-use Rattle.std.proofs.Common.{◌≡◌, ℕ, suc, zero, ◌+◌, ◌-◌, ◌<◌, ◌≤◌, not, leb, List, [], ◌∷◌, ◌++◌, length, take, drop, get_or, map, refl, sym, ap, ◌∙◌, arith, ⊎_elim}
+use Rattle.std.proofs.Common.{◌≡◌, ℕ, suc, zero, ◌+◌, ◌-◌, ◌<◌, ◌≤◌, not, leb, List, [], ◌∷◌, ◌++◌, length, take, drop, get_or, map, refl, ap, ◌∙◌, arith, ⊎_elim}
 use Rattle.std.specs.List.{prefix_len}
-use Rattle.std.proofs.lemmas.Bool.{leb-false, cases_lt}
-use Rattle.std.proofs.lemmas.List.{get_or-map, get_or_append_left, take_all, length-drop, length-take-le}
-use Rattle.std.proofs.lemmas.Simd.{run_in_chunk_le, run_in_chunk_fails, get_or-chunk}
-use Rattle.fq_trim.specs.Windows.{distances}
+use Rattle.std.proofs.lemmas.Bool.{leb-false, cases_lt, not-true}
+use Rattle.std.proofs.lemmas.List.{get_or-map, get_or_append_left}
+use Rattle.std.proofs.lemmas.List.Sums.{prefix_len-le-length, prefix_len_passes}
+use Rattle.std.proofs.lemmas.Simd.{get_or-chunk}
+use Rattle.fq_trim.specs.Windows.{distances, IsLowEnd}
+use Rattle.fq_trim.proofs.PlaceLemmas.{map_part}
 
 -- the numbers below n, the largest first
 abbrev pub countdown : ℕ → List ℕ
@@ -28,41 +30,20 @@ turned_at v k long lt =
     ∙ ap (λ i. get_or (v ++ v) i 0) (get_or-countdown 16 k lt ∙ omega arith)
     ∙ get_or_append_left v v 0 (15 - k) (omega arith)
 
--- How many of the reversed scores are before the first that is high.
-module _ (v turned : List ℕ) (score r : ℕ) (long : length turned ≡ 16)
-    (each : (k : ℕ) → k < 16 → get_or turned k 0 ≡ get_or v (15 - k) 0)
-    (counted : r ≡ prefix_len (λ x. not (leb score x)) turned) where
-  of_all : r ≡ prefix_len (λ x. not (leb score x)) (take 16 turned)
-  of_all = counted ∙ ap (prefix_len (λ x. not (leb score x)))
-      (sym (take_all 16 turned (omega arith)))
-
-  -- at most 16 scores are counted
-  pub few : r ≤ 16
-  few = run_in_chunk_le (leb score) turned 0 16 r 0 (omega arith) of_all
-
-  -- the last r scores of the vector are below `score`
-  pub low : (k : ℕ) → 16 ≤ k + r → k < 16 → get_or v k 0 < score
-  low k from lt =
-      let fails = run_in_chunk_fails (leb score) turned 0 16 r 0 (omega arith) of_all (15 - k)
-      (omega arith) (omega arith) in
-      let small = leb-false score (get_or turned (15 - k) 0) fails in
+-- how many of the reversed scores are before the first that is high
+pub low_end : (v turned : List ℕ) (score : ℕ) → length turned ≡ 16 →
+    ((k : ℕ) → k < 16 → get_or turned k 0 ≡ get_or v (15 - k) 0) →
+    IsLowEnd score v (prefix_len (λ x. not (leb score x)) turned)
+low_end v turned score long each = record {
+  within = omega (arith, prefix_len-le-length (λ x. not (leb score x)) turned);
+  low = λ k from lt.
+      let small = leb-false score _ (not-true _ (prefix_len_passes (λ x. not (leb score x)) turned
+      (15 - k) 0 (omega arith))) in
       let same = each (15 - k) (omega arith) in
       let place : 15 - (15 - k) ≡ k = omega arith in
       let is = ap (λ n. get_or v n 0) place in
-      omega arith
-
--- the scores of part of a read
-part_at : (offset start k : ℕ) (qual part : List ℕ) → start + 16 ≤ length qual → k < 16 →
-    part ≡ map (λ byte. byte - offset) (take 16 (drop start qual)) →
-    get_or part k 0 ≡ get_or (distances offset qual) (start + k) 0
-part_at offset start k qual part room lt is =
-    let lent = take 16 (drop start qual) in
-    let here : length lent ≡ 16 = length-take-le 16 (drop start qual)
-    (omega (arith, length-drop start qual)) in
-    ap (λ s. get_or s k 0) is
-    ∙ get_or-map (λ byte. byte - offset) lent k 0 0 (omega arith)
-    ∙ ap (λ byte. byte - offset) (get_or-chunk start 16 qual k 0 lt)
-    ∙ sym (get_or-map (λ byte. byte - offset) qual (start + k) 0 0 (omega arith))
+      omega arith;
+}
 
 -- low scores at the end, and the scores before them
 pub lower : (offset score stop r : ℕ) (qual part : List ℕ) → 16 ≤ stop → stop ≤ length qual →
@@ -74,7 +55,8 @@ lower offset score stop r qual part room within is here behind few k from lt = �
     (λ before.
     let i = k - (stop - 16) in
     let small = here i (omega arith) (omega arith) in
-    let same = part_at offset (stop - 16) i qual part (omega arith) (omega arith) is in
+    let same = ap (λ s. get_or s i 0) (is ∙ map_part (λ byte. byte - offset) (stop - 16) 16 qual)
+    ∙ get_or-chunk (stop - 16) 16 (distances offset qual) i 0 (omega arith) in
     let place : stop - 16 + i ≡ k = omega arith in
     let at = ap (λ n. get_or (distances offset qual) n 0) place in
     omega arith)

@@ -1,5 +1,5 @@
 -- Indices and the tests that select them.
-use Rattle.std.proofs.Common.{◌≡◌, ℕ, zero, suc, ◌+◌, ◌-◌, ◌*◌, ◌<◌, ◌≤◌, ◌⊎◌, Bool, true, false, List, [], ◌∷◌, ◌++◌, length, take, drop, get_or, map, sum, max, refl, ap, sym, subst, ◌∙◌, arith, add-one, take-add, ⊎_elim, leb}
+use Rattle.std.proofs.Common.{◌≡◌, ℕ, zero, suc, ◌+◌, ◌-◌, ◌*◌, ◌<◌, ◌≤◌, ◌⊎◌, Bool, true, false, List, [], ◌∷◌, ◌++◌, length, take, drop, get_or, map, sum, max, refl, ap, ap₂, sym, subst, ◌∙◌, arith, add-one, take-add, ⊎_elim, leb}
 use Rattle.std.specs.List.{list_any, list_all}
 use Rattle.std.proofs.lemmas.List.{append-nil, length-drop, drop_more, take_more, length-take, length-take-le, length-map, get_or-map, get_or-drop, get_or-take, take-map, take-take, take_all, drop-map, drop-take}
 use Rattle.std.proofs.lemmas.List.Folds.{list_any_at, list_all-append}
@@ -9,8 +9,9 @@ use Rattle.fq_trim.specs.declared.step.Step.{Step}
 use Rattle.fq_trim.specs.declared.step.Step.TheVariants.{Leading, Trailing, SlidingWindow}
 use Rattle.fq_text.specs.declared.encoding.Encoding.{Encoding}
 use Rattle.fq_text.specs.Scores.{is_scored, value_of}
-use Rattle.fq_text.proofs.ScoreLemmas.{value_small}
+use Rattle.fq_text.proofs.ScoreLemmas.{all_parts, value_small}
 use Rattle.fq_trim.specs.Keeping.{scores, places, select, keeps, is_good_end, is_good_window, IsBetween, kept_of, kept}
+use Rattle.fq_trim.specs.Windows.{IsGoodStop}
 use Rattle.std.proofs.lemmas.Grind.{common_steps}
 
 -- `places a n` has n indices
@@ -48,27 +49,25 @@ select_none test j (x ∷ xs) none = cond-false (test j) _ _ (none j (omega arit
 pub select_between : (test : ℕ → Bool) (a n lo hi : ℕ) → IsBetween test n lo hi →
     select test 0 (places a n) ≡ places (a + lo) (hi - lo)
 select_between test a n lo hi b =
-    let order = b.order in let within = b.within in
     let e : n ≡ lo + ((hi - lo) + (n - hi)) = omega arith in
+    let first = places a lo in
+    let mid = places (a + lo) (hi - lo) in
+    let last = places (a + lo + (hi - lo)) (n - hi) in
     let l1 = length-places a lo in
     let l2 = length-places (a + lo) (hi - lo) in
     let l3 = length-places (a + lo + (hi - lo)) (n - hi) in
-    ap (λ m. select test 0 (places a m)) e
-    ∙ ap (select test 0) (places-append a lo ((hi - lo) + (n - hi))
-    ∙ ap (λ ps. places a lo ++ ps) (places-append (a + lo) (hi - lo) (n - hi)))
-    ∙ select_append test 0 (places a lo) _
-    ∙ ap (λ ps. ps ++ select test (0 + length (places a lo))
-    (places (a + lo) (hi - lo) ++ places (a + lo + (hi - lo)) (n - hi)))
-    (select_none test 0 (places a lo) (λ k le lt. b.before k (omega arith) (omega arith)))
-    ∙ select_append test (0 + length (places a lo)) (places (a + lo) (hi - lo)) _
-    ∙ ap (λ ps. ps ++ select test (0 + length (places a lo) + length (places (a + lo) (hi - lo)))
-    (places (a + lo + (hi - lo)) (n - hi)))
-    (select_all test (0 + length (places a lo)) (places (a + lo) (hi - lo))
-    (λ k le lt. b.inside k (omega arith) (omega arith)))
-    ∙ ap (λ ps. places (a + lo) (hi - lo) ++ ps)
-    (select_none test (0 + length (places a lo) + length (places (a + lo) (hi - lo)))
-    (places (a + lo + (hi - lo)) (n - hi)) (λ k le lt. b.behind k (omega arith) (omega arith)))
-    ∙ append-nil _
+    let all : places a n ≡ first ++ (mid ++ last) = ap (places a) e
+    ∙ places-append a lo ((hi - lo) + (n - hi))
+    ∙ ap (λ ps. first ++ ps) (places-append (a + lo) (hi - lo) (n - hi)) in
+    ap (select test 0) all ∙ select_append test 0 first (mid ++ last)
+    ∙ ap₂ (λ xs ys. xs ++ ys)
+    (select_none test 0 first (λ k le lt. b.before k (omega arith) (omega arith)))
+    (select_append test (0 + length first) mid last
+    ∙ ap₂ (λ xs ys. xs ++ ys)
+    (select_all test (0 + length first) mid (λ k le lt. b.inside k (omega arith) (omega arith)))
+    (select_none test (0 + length first + length mid) last
+    (λ k le lt. b.behind k (omega arith) (omega arith))))
+    ∙ append-nil mid
 
 -- the scores at consecutive indices
 pub scores_at : (q : List ℕ) (a n : ℕ) → a + n ≤ length q →
@@ -106,28 +105,30 @@ step_alone step e qual lo hi b =
 -- The first index with a score.
 pub any_from : (t : ℕ) (q : List ℕ) (lo j : ℕ) → lo ≤ j → lo < length q → t ≤ get_or q lo 0 →
     list_any (leb t) (take (suc j) q) ≡ true
-any_from t [] lo j le lt at = absurd (omega arith)
-any_from t (x ∷ xs) zero j le lt at = or_left _ _ (le-leb t x at)
-any_from t (x ∷ xs) (suc lo) zero le lt at = absurd (omega arith)
-any_from t (x ∷ xs) (suc lo) (suc j) le lt at =
-    or_right _ _ (any_from t xs lo j (omega arith) (omega arith) at)
+any_from t q lo j le lt at =
+    let there = get_or-take (suc j) q lo 0 (omega arith) in
+    list_any_at (leb t) (take (suc j) q) lo 0 (omega (arith, length-take (suc j) q))
+    (le-leb t _ (omega arith))
+
+none_in : (t : ℕ) (q : List ℕ) → ((k : ℕ) → k < length q → get_or q k 0 < t) →
+    list_any (leb t) q ≡ false
+none_in t [] none = refl
+none_in t (x ∷ xs) none = or_from _ _ (lt-leb t x (none 0 (omega arith)))
+    (none_in t xs (λ k lt. none (suc k) (omega arith)))
 
 -- if each of the first n scores is below t, none of them is at least t
-pub none_to : (t : ℕ) (q : List ℕ) (n : ℕ) → ((k : ℕ) → k < n → get_or q k 0 < t) → n ≤ length q →
+pub none_to : (t : ℕ) (q : List ℕ) (n : ℕ) → ((k : ℕ) → k < n → get_or q k 0 < t) →
     list_any (leb t) (take n q) ≡ false
-none_to t q zero none le = refl
-none_to t [] (suc n) none le = absurd (omega arith)
-none_to t (x ∷ xs) (suc n) none le = or_from _ _ (lt-leb t x (none 0 (omega arith)))
-    (none_to t xs n (λ k lt. none (suc k) (omega arith)) (omega arith))
+none_to t q n none = grind (arith, common_steps, length-take, none_in, get_or-take)
 
 -- for any scores, LEADING keeps the bases from the first score of at least t on
-pub leading_between : (t : ℕ) (q : List ℕ) (lo : ℕ) → lo ≤ length q →
-    ((k : ℕ) → k < lo → get_or q k 0 < t) → (lo < length q → t ≤ get_or q lo 0) →
-    IsBetween (keeps (Leading t) q) (length q) lo (length q)
-leading_between t q lo le none at = record {
+pub leading_between : (t : ℕ) (q : List ℕ) (n lo : ℕ) → length q ≡ n → lo ≤ n →
+    ((k : ℕ) → k < lo → get_or q k 0 < t) → (lo < n → t ≤ get_or q lo 0) →
+    IsBetween (keeps (Leading t) q) n lo n
+leading_between t q n lo len le none at = record {
   order = le;
   within = omega arith;
-  before = λ k lt in_q. none_to t q (suc k) (λ m below. none m (omega arith)) (omega arith);
+  before = λ k lt in_q. none_to t q (suc k) (λ m below. none m (omega arith));
   inside = λ k from lt. any_from t q lo k from (omega arith) (at (omega arith));
   behind = λ k from lt. absurd (omega arith);
 }
@@ -142,27 +143,21 @@ any_behind t q k j le lt at =
     let len = length-drop k q in
     list_any_at (leb t) (drop k q) (j - k) 0 (omega arith) (le-leb t _ (omega arith))
 
-none_in : (t : ℕ) (q : List ℕ) → ((k : ℕ) → k < length q → get_or q k 0 < t) →
-    list_any (leb t) q ≡ false
-none_in t [] none = refl
-none_in t (x ∷ xs) none = or_from _ _ (lt-leb t x (none 0 (omega arith)))
-    (none_in t xs (λ k lt. none (suc k) (omega arith)))
-
 none_behind : (t : ℕ) (q : List ℕ) (k : ℕ) → ((j : ℕ) → k ≤ j → j < length q → get_or q j 0 < t) →
     list_any (leb t) (drop k q) ≡ false
 none_behind t q k none =
     grind (arith, common_steps, length-drop, none_in, get_or-drop)
 
 -- for any scores, TRAILING keeps the bases up to the last score of at least t
-pub trailing_between : (t : ℕ) (q : List ℕ) (hi : ℕ) → hi ≤ length q →
-    (0 < hi → t ≤ get_or q (hi - 1) 0) → ((k : ℕ) → hi ≤ k → k < length q → get_or q k 0 < t) →
-    IsBetween (keeps (Trailing t) q) (length q) 0 hi
-trailing_between t q hi within at low = record {
+pub trailing_between : (t : ℕ) (q : List ℕ) (n hi : ℕ) → length q ≡ n → hi ≤ n →
+    (0 < hi → t ≤ get_or q (hi - 1) 0) → ((k : ℕ) → hi ≤ k → k < n → get_or q k 0 < t) →
+    IsBetween (keeps (Trailing t) q) n 0 hi
+trailing_between t q n hi len within at low = record {
   order = omega arith;
   within = within;
   before = λ k lt in_q. absurd (omega arith);
   inside = λ k from lt. any_behind t q k (hi - 1) (omega arith) (omega arith) (at (omega arith));
-  behind = λ k from lt. none_behind t q k (λ j le in_q. low j (omega arith) in_q);
+  behind = λ k from lt. none_behind t q k (λ j le in_q. low j (omega arith) (omega arith));
 }
 
 -- A step that keeps nothing.
@@ -201,31 +196,16 @@ none_places test a zero none = refl
 none_places test a (suc n) none = or_from _ _ (none a (omega arith) (omega arith))
     (none_places test (suc a) n (λ k le lt. none k (omega arith) (omega arith)))
 
--- SLIDINGWINDOW keeps the bases up to the last good end, if the first window is good
-pub window_between : (w t : ℕ) (q : List ℕ) (last : ℕ) → w ≤ length q →
-    is_good_window w t q 0 ≡ true → last ≤ length q →
-    (0 < last → is_good_end w t q (last - 1) ≡ true) →
-    ((k : ℕ) → last ≤ k → k < length q → is_good_end w t q k ≡ false) →
-    IsBetween (keeps (SlidingWindow w t) q) (length q) 0 last
-window_between w t q last fits first within good none =
-    let ready = and_from _ _ (le-leb w (length q) fits) first in
-    record {
-      order = omega arith;
-      within = within;
-      before = λ k lt in_q. absurd (omega arith);
-      inside =
-          λ k from lt. and_from _ _ ready (any_places (is_good_end w t q) k (length q - k) (last -
-          1) (omega arith) (omega arith) (good (omega arith)));
-      behind =
-          λ k from lt. and_right _ _ (none_places (is_good_end w t q) k (length q - k) (λ m le
-          below. none m (omega arith) (omega arith)));
-    }
-
 -- SLIDINGWINDOW keeps nothing if the first window is bad
-pub window_bad : (w t : ℕ) (q : List ℕ) → sum (take w q) < w * t →
-    IsBetween (keeps (SlidingWindow w t) q) (length q) 0 0
-window_bad w t q bad = empty_between (keeps (SlidingWindow w t) q) (length q)
+pub window_bad : (w t n : ℕ) (q : List ℕ) → sum (take w q) < w * t →
+    IsBetween (keeps (SlidingWindow w t) q) n 0 0
+window_bad w t n q bad = empty_between (keeps (SlidingWindow w t) q) n
     (λ k. and_left _ _ (and_right _ _ (lt-leb (w * t) (sum (take w q)) bad)))
+
+-- a function of each member of a part of a list
+pub map_part : (f : ℕ → ℕ) (s n : ℕ) (xs : List ℕ) →
+    map f (take n (drop s xs)) ≡ take n (drop s (map f xs))
+map_part f s n xs = sym (take-map f n (drop s xs)) ∙ ap (take n) (sym (drop-map f s xs))
 
 -- Scores of quality bytes.
 module _ (e : Encoding) (qual : List ℕ) where
@@ -240,28 +220,7 @@ module _ (e : Encoding) (qual : List ℕ) where
 
   -- the scores of a part of a read are that part of its scores
   pub scores_of_part : (s n : ℕ) → scores e (take n (drop s qual)) ≡ take n (drop s (scores e qual))
-  scores_of_part s n = sym (take-map (value_of e) n (drop s qual))
-      ∙ ap (take n) (sym (drop-map (value_of e) s qual))
-
-  -- LEADING keeps the bases from the first score of at least t on
-  pub leading_scores : (t lo : ℕ) → lo ≤ length qual →
-      ((k : ℕ) → k < lo → get_or (scores e qual) k 0 < t) →
-      (lo < length qual → t ≤ value_of e (get_or qual lo 0)) →
-      IsBetween (keeps (Leading t) (scores e qual)) (length qual) lo (length qual)
-  leading_scores t lo le none at =
-      let len = length-scores in
-      subst (λ n. IsBetween (keeps (Leading t) (scores e qual)) n lo n) len
-      (leading_between t (scores e qual) lo (omega arith) none
-      (λ lt. let in_qual : lo < length qual = omega arith in let same = score_at lo in_qual in
-      let h = at in_qual in omega arith))
-
-  -- TRAILING keeps the bases up to the last score of at least t
-  pub trailing_scores : (t hi : ℕ) → hi ≤ length qual →
-      (0 < hi → t ≤ get_or (scores e qual) (hi - 1) 0) →
-      ((k : ℕ) → hi ≤ k → k < length qual → get_or (scores e qual) k 0 < t) →
-      IsBetween (keeps (Trailing t) (scores e qual)) (length qual) 0 hi
-  trailing_scores t hi within at low =
-      grind (arith, common_steps, length-scores, trailing_between t (scores e qual) hi)
+  scores_of_part s n = map_part (value_of e) s n qual
 
   -- what a step keeps of a part of a read is what it keeps of that part of the scores
   pub part_between : (step : Step) (start stop lo hi : ℕ) → start ≤ stop → stop ≤ length qual →
@@ -286,56 +245,61 @@ good_end : (w t : ℕ) (q : List ℕ) (k : ℕ) → t ≤ get_or q k 0 →
 good_end w t q k at good =
     grind (arith, common_steps, and_from, le-leb, all_places)
 
--- what a sliding window keeps, if the first bad window ends at index `good`
-pub window_kept : (w t : ℕ) (q : List ℕ) (good last : ℕ) → 0 < w → w ≤ length q → w ≤ good →
-    good ≤ length q → last ≤ good →
-    ((s : ℕ) → s + w ≤ good → w * t ≤ sum (take w (drop s q))) →
-    (good < length q → sum (take w (drop (good + 1 - w) q)) < w * t) →
-    (0 < last → t ≤ get_or q (last - 1) 0) → ((k : ℕ) → last ≤ k → k < good → get_or q k 0 < t) →
-    IsBetween (keeps (SlidingWindow w t) q) (length q) 0 last
-window_kept w t q good last some fits first within under windows bad high low =
-    window_between w t q last fits (le-leb (w * t) (sum (take w q)) (windows 0 (omega arith)))
-    (omega arith)
-    (λ has. good_end w t q (last - 1) (high has) (λ s le. windows s (omega arith)))
-    (λ k from lt. ⊎_elim
-    (λ (below : k < good). low_end w t q k (low k from below))
-    (λ (above : good ≤ k). bad_end w t q (good + 1 - w) k some (omega arith) (bad (omega arith)))
-    (cases_lt k good))
+-- what a sliding window keeps, if the first bad window ends at index `good`, and `last` is after
+-- the last score of at least t before that
+pub window_kept : (w t n : ℕ) (q front : List ℕ) (good last : ℕ) → length q ≡ n → 0 < w → w ≤ n →
+    IsGoodStop w (w * t) q good → w ≤ good → front ≡ take good q → last ≤ good →
+    (0 < last → t ≤ get_or front (last - 1) 0) →
+    ((k : ℕ) → last ≤ k → k < good → get_or front k 0 < t) →
+    IsBetween (keeps (SlidingWindow w t) q) n 0 last
+window_kept w t n q front good last len some fits stop first front_is under high low =
+    let within = stop.within in
+    let same : (k : ℕ) → k < good → get_or front k 0 ≡ get_or q k 0 =
+    λ k lt. ap (λ xs. get_or xs k 0) front_is ∙ get_or-take good q k 0 lt in
+    let ready = and_from _ _ (le-leb w (length q) (omega arith))
+    (le-leb (w * t) (sum (take w q)) (stop.good 0 (omega arith))) in
+    let good_last : 0 < last → is_good_end w t q (last - 1) ≡ true = λ has.
+    let at = high has in let is = same (last - 1) (omega arith) in
+    good_end w t q (last - 1) (omega arith) (λ s le. stop.good s (omega arith)) in
+    let none : (k : ℕ) → last ≤ k → k < n → is_good_end w t q k ≡ false = λ k from lt. ⊎_elim
+    (λ (below : k < good). let at = low k from below in let is = same k below in
+    low_end w t q k (omega arith))
+    (λ (above : good ≤ k). bad_end w t q (good + 1 - w) k some (omega arith)
+    (stop.bad (omega arith)))
+    (cases_lt k good) in
+    record {
+      order = omega arith;
+      within = omega arith;
+      before = λ k lt in_q. absurd (omega arith);
+      inside = λ k from lt. and_from _ _ ready (any_places (is_good_end w t q) k (length q - k)
+          (last - 1) (omega arith) (omega arith) (good_last (omega arith)));
+      behind = λ k from lt. and_right _ _ (none_places (is_good_end w t q) k (length q - k)
+          (λ m le below. none m (omega arith) (omega arith)));
+    }
+
+-- a window and one more score
+pub sum_more : (q : List ℕ) (w s : ℕ) → s + w < length q →
+    sum (take (w + 1) (drop s q)) ≡ sum (take w (drop s q)) + get_or q (s + w) 0
+sum_more q w s lt = grind (arith, common_steps, take_more, length-drop, sum_by_push, get_or-drop)
 
 -- the sum of the next window: one score is added, one subtracted
-pub window_moves : (w : ℕ) (q : List ℕ) (s : ℕ) → 0 < w → s + w < length q →
+window_moves : (w : ℕ) (q : List ℕ) (s : ℕ) → s + w < length q →
     sum (take w (drop (s + 1) q)) + get_or q s 0 ≡ sum (take w (drop s q)) + get_or q (s + w) 0
-window_moves zero q s some lt = absurd (omega arith)
-window_moves (suc w) q s some lt =
-    let rest = drop (s + 1) q in
-    let len = length-drop (s + 1) q in
-    let old : sum (take (suc w) (drop s q)) ≡ get_or q s 0 + sum (take w rest) =
-    ap (λ xs. sum (take (suc w) xs)) (drop_more q s 0 (omega arith))
-    ∙ sum_by-cons (λ x. x) (get_or q s 0) (take w rest) in
-    let more : take (w + 1) rest ≡ take w rest ++ (get_or rest w 0 ∷ []) =
-    take_more rest w 0 (omega arith) in
-    let new : sum (take (suc w) rest) ≡ sum (take w rest) + get_or rest w 0 =
-    ap (λ n. sum (take n rest)) (sym (add-one w)) ∙ ap sum more
-    ∙ sum_by_push (λ x. x) (take w rest) (get_or rest w 0) in
-    let place : s + 1 + w ≡ s + suc w = omega arith in
-    let entering : get_or rest w 0 ≡ get_or q (s + suc w) 0 = get_or-drop (s + 1) q w 0
-    ∙ ap (λ n. get_or q n 0) place in
+window_moves w q s lt =
+    let more = ap (λ n. sum (take n (drop s q))) (sym (add-one w)) ∙ sum_more q w s lt in
+    let first = ap (λ xs. sum (take (suc w) xs)) (drop_more q s 0 (omega arith))
+    ∙ sum_by-cons (λ x. x) (get_or q s 0) (take w (drop (s + 1) q)) in
     omega arith
 
--- Tests of each member.
+-- what holds of each member holds of each of the first n
 pub all_taken : {T : Type 0} (p : T → Bool) (xs : List T) (n : ℕ) → list_all p xs ≡ true →
     list_all p (take n xs) ≡ true
-all_taken p xs zero all = refl
-all_taken p [] (suc n) all = refl
-all_taken p (x ∷ xs) (suc n) all = let parts = and_parts (p x) (list_all p xs) all in
-    and_from _ _ parts.0 (all_taken p xs n parts.1)
+all_taken p xs n all = (and_parts _ _ (sym (all_parts p n xs) ∙ all)).0
 
 -- what holds of each member holds of each after the first n
 pub all_dropped : {T : Type 0} (p : T → Bool) (xs : List T) (n : ℕ) → list_all p xs ≡ true →
     list_all p (drop n xs) ≡ true
-all_dropped p xs zero all = all
-all_dropped p [] (suc n) all = refl
-all_dropped p (x ∷ xs) (suc n) all = all_dropped p xs n (and_parts (p x) (list_all p xs) all).1
+all_dropped p xs n all = (and_parts _ _ (sym (all_parts p n xs) ∙ all)).1
 
 -- Scores of which each is high enough.
 pub high_more : (t n m : ℕ) (q : List ℕ) → list_all (leb t) (take n q) ≡ true →
@@ -381,13 +345,13 @@ module _ (e : Encoding) (qual : List ℕ) where
       omega arith
 
   -- the window that ends at an index, after the window that ends before it
-  pub next_window : (w end : ℕ) → 0 < w → w ≤ end → end < length qual →
+  pub next_window : (w end : ℕ) → w ≤ end → end < length qual →
       sum (take w (drop (end + 1 - w) (scores e qual))) + value_of e (get_or qual (end - w) 0)
       ≡ sum (take w (drop (end - w) (scores e qual))) + value_of e (get_or qual end 0)
-  next_window w end some from lt =
+  next_window w end from lt =
       let q = scores e qual in
       let len = length-scores e qual in
-      let moves = window_moves w q (end - w) some (omega arith) in
+      let moves = window_moves w q (end - w) (omega arith) in
       let start : end - w + 1 ≡ end + 1 - w = omega arith in
       let new = ap (λ s. sum (take w (drop s q))) start in
       let stop : end - w + w ≡ end = omega arith in
@@ -396,39 +360,12 @@ module _ (e : Encoding) (qual : List ℕ) where
       let leaving = score_at e qual (end - w) (omega arith) in
       omega arith
 
-  -- what a sliding window keeps, if the first bad window ends at index `good` and the last score of
-  -- at least t before that is right before `last`
-  pub window_scores : (w t least good last : ℕ) → least ≡ w * t → 0 < w → w ≤ length qual →
-      w ≤ good → good ≤ length qual → last ≤ length (take good qual) →
-      ((s : ℕ) → s + w ≤ good → least ≤ sum (take w (drop s (scores e qual)))) →
-      (good < length qual → sum (take w (drop (good + 1 - w) (scores e qual))) < least) →
-      (0 < last → t ≤ get_or (scores e (take good qual)) (last - 1) 0) →
-      ((k : ℕ) → last ≤ k → k < length (take good qual) →
-      get_or (scores e (take good qual)) k 0 < t) →
-      IsBetween (keeps (SlidingWindow w t) (scores e qual)) (length qual) 0 last
-  window_scores w t least good last least_is some fits first within under windows bad high low =
-      let q = scores e qual in
-      let len = length-scores e qual in
-      let taken = length-take-le good qual within in
-      let same : (k : ℕ) → k < good → get_or (scores e (take good qual)) k 0 ≡ get_or q k 0 =
-      λ k lt. ap (λ xs. get_or xs k 0) (sym (take-map (value_of e) good qual))
-      ∙ get_or-take good q k 0 lt in
-      subst (λ n. IsBetween (keeps (SlidingWindow w t) q) n 0 last) len
-      (window_kept w t q good last some (omega arith) first (omega arith) (omega arith)
-      (λ s le. subst (λ n. n ≤ sum (take w (drop s q))) least_is (windows s le))
-      (λ lt. subst (λ n. sum (take w (drop (good + 1 - w) q)) < n) least_is (bad (omega arith)))
-      (λ has. subst (λ n. t ≤ n) (same (last - 1) (omega arith)) (high has))
-      (λ k from lt. subst (λ n. n < t) (same k lt) (low k from (omega arith))))
-
 -- The first window that is summed is the one that ends at `from`. Each of the first `front` scores
--- is at least t.
-module _ (e : Encoding) (qual : List ℕ) (w t score front from total : ℕ) (score_is : score ≡ t)
+-- is at least `score`.
+module _ (e : Encoding) (qual : List ℕ) (w score front from total : ℕ)
     (fits : w ≤ length qual) (within : front ≤ length qual)
-    (high : list_all (leb t) (take front (scores e qual)) ≡ true) (from_is : from ≡ max front w)
+    (high : list_all (leb score) (take front (scores e qual)) ≡ true) (from_is : from ≡ max front w)
     (total_is : total ≡ sum (scores e (take (from - (from - w)) (drop (from - w) qual)))) where
-  least_is : w * score ≡ w * t
-  least_is = ap (λ n. w * n) score_is
-
   -- `total` is the sum of the window that ends at `from`
   pub from_sum : total ≡ sum (take w (drop (from - w) (scores e qual)))
   from_sum =
@@ -438,7 +375,7 @@ module _ (e : Encoding) (qual : List ℕ) (w t score front from total : ℕ) (sc
   window_up_to : (s : ℕ) → s + w ≤ from → (w * score ≤ sum (take w (drop s (scores e qual))))
       ⊎ (from ≡ w)
   window_up_to s le =
-      grind (arith, common_steps, least_is, length-scores, high_window)
+      grind (arith, common_steps, length-scores, high_window)
 
   -- if this window is good, each window that ends at or before `from` is good
   pub from_good : w * score ≤ total → (s : ℕ) → s + w ≤ from →

@@ -1,15 +1,15 @@
 -- Windows that are compared in a vector.
 use Rattle.std.proofs.Common.{◌≡◌, ℕ, suc, zero, ◌+◌, ◌-◌, ◌%◌, ◌*◌, ◌^◌, ◌<◌, ◌≤◌, Fits, w8, Bool, true, false, not, ◌&&◌, cond, ltb, leb, eqb, List, [], ◌∷◌, length, take, drop, get_or, map, min, sum, refl, sym, ap, ap₂, ◌∙◌, arith, replicate, take-add, ⊎_elim}
 use Rattle.std.specs.List.{prefix_len, list_all}
-use Rattle.std.proofs.lemmas.Bool.{ltb-true, ltb-false, lt-leb, le-leb, and_left, and_right, and_from, eq-eqb, ne_eqb, cases_eq, cases_lt}
-use Rattle.std.proofs.lemmas.List.{length-map, length-drop, length-take-le, get_or-map, get_or-drop, take-map, drop-map, drop-drop, take_all, take_more}
+use Rattle.std.proofs.lemmas.Bool.{ltb-true, ltb-false, lt-leb, le-leb, and_left, and_right, and_from, eq-eqb, ne_eqb, cases_eq, cases_lt, not-true, not-false}
+use Rattle.std.proofs.lemmas.List.{length-map, length-drop, length-take, length-take-le, drop-map, drop-drop, take_all}
 use Rattle.std.proofs.lemmas.List.Folds.{list_all-append}
-use Rattle.std.proofs.lemmas.List.Sums.{sum_by_push}
-use Rattle.std.proofs.lemmas.Simd.{get_or-chunk, get_or-zip2, run_in_chunk_le, run_in_chunk_fails, run_in_chunk_stops}
+use Rattle.std.proofs.lemmas.List.Sums.{prefix_len-le-length, prefix_len_passes, prefix_len_stops}
+use Rattle.std.proofs.lemmas.Simd.{get_or-chunk, get_or-zip2, length-chunk}
 use Rattle.std.proofs.lemmas.Grind.{common_steps}
-use Rattle.fq_trim.specs.Windows.{distances, IsGoodStop}
-use Rattle.fq_trim.proofs.PlaceLemmas.{high_window}
-use Rattle.fq_text.proofs.VectorLemmas.{flag, mask_of}
+use Rattle.fq_trim.specs.Windows.{distances, IsGoodStop, IsFirstBelow}
+use Rattle.fq_trim.proofs.PlaceLemmas.{high_window, sum_more, map_part}
+use Rattle.fq_text.proofs.VectorLemmas.{flag, mask_of, both_in}
 use native.Mathlib.Nat.{one-le-pow, two-pow-succ}
 use lib.Lanes.{Each1, zip2, sel_l, mask_l, chunk, top}
 
@@ -62,12 +62,6 @@ both_high : (score o x y : ℕ) → leb score (min x y - o) ≡ leb score (x - o
 both_high score o x y =
     grind (arith, common_steps, lt-leb, and_left, and_right, cases_lt, le-leb, and_from)
 
-in_pairs : (a b c d : Bool) → ((a && b) && (c && d)) ≡ ((a && c) && (b && d))
-in_pairs true true c d = refl
-in_pairs true false true d = refl
-in_pairs true false false d = refl
-in_pairs false b c d = refl
-
 all_both_high : (score o : ℕ) (v u : List ℕ) → length v ≡ length u →
     list_all (leb score) (distances o (zip2 min v u))
     ≡ list_all (leb score) (distances o v) && list_all (leb score) (distances o u)
@@ -75,7 +69,7 @@ all_both_high score o [] [] long = refl
 all_both_high score o [] (y ∷ ys) long = absurd (omega arith)
 all_both_high score o (x ∷ xs) [] long = absurd (omega arith)
 all_both_high score o (x ∷ xs) (y ∷ ys) long =
-    grind (arith, common_steps, both_high, in_pairs, all_both_high score o xs ys)
+    grind (arith, common_steps, both_high, both_in, all_both_high score o xs ys)
 
 -- so of 32 bytes, only the lower of two that are 16 apart is compared
 pub all_high_by_lower : (offset score : ℕ) (qual : List ℕ) {lower scores : List ℕ} →
@@ -86,41 +80,21 @@ all_high_by_lower offset score qual room lower_is scores_is =
     let q = distances offset qual in
     let left = length-take-le 16 qual (omega arith) in
     let right = length-take-le 16 (drop 16 qual) (omega (arith, length-drop 16 qual)) in
-    let behind : distances offset (take 16 (drop 16 qual)) ≡ take 16 (drop 16 q) =
-    sym (take-map (λ byte. byte - offset) 16 (drop 16 qual))
-    ∙ ap (take 16) (sym (drop-map (λ byte. byte - offset) 16 qual)) in
     ap (list_all (leb score)) (scores_is ∙ ap (distances offset) lower_is)
     ∙ all_both_high score offset (take 16 qual) (take 16 (drop 16 qual)) (omega arith)
     ∙ ap₂ (λ v u. list_all (leb score) v && list_all (leb score) u)
-    (sym (take-map (λ byte. byte - offset) 16 qual)) behind
+    (map_part (λ byte. byte - offset) 0 16 qual) (map_part (λ byte. byte - offset) 16 16 qual)
     ∙ sym (ap (list_all (leb score)) (take-add 16 16 q)
     ∙ list_all-append (leb score) (take 16 q) (take 16 (drop 16 q)))
 
--- The first sum that is too small.
-module _ (sums : List ℕ) (least r : ℕ)
-    (counted : r ≡ prefix_len (λ x. not (ltb x least)) sums) where
-  room : 0 + length sums ≤ length sums
-  room = omega arith
-
-  of_all : r ≡ prefix_len (λ x. not (ltb x least)) (take (length sums) sums)
-  of_all = counted ∙ ap (prefix_len (λ x. not (ltb x least)))
-      (sym (take_all (length sums) sums (omega arith)))
-
-  -- no more sums are counted than there are
-  pub at_most : r ≤ length sums
-  at_most = run_in_chunk_le (λ x. ltb x least) sums 0 (length sums) r 0 room of_all
-
-  -- each sum before index r is at least `least`
-  pub none_before : (k : ℕ) → k < r → least ≤ get_or sums k 0
-  none_before k lt =
-      ltb-false (get_or sums k 0) least (run_in_chunk_fails (λ x. ltb x least) sums 0 (length sums)
-      r 0 room of_all k (omega arith) (omega arith))
-
-  -- the sum at index r, if there is one, is less than `least`
-  pub there : r < length sums → get_or sums r 0 < least
-  there lt = let place : r ≡ 0 + r = omega arith in
-      ltb-true (get_or sums r 0) least (ap (λ n. ltb (get_or sums n 0) least) place
-      ∙ run_in_chunk_stops (λ x. ltb x least) sums 0 (length sums) r 0 room of_all lt)
+-- how many sums are before the first that is too small
+pub first_below : (least : ℕ) (sums : List ℕ) →
+    IsFirstBelow least sums (prefix_len (λ x. not (ltb x least)) sums)
+first_below least sums = record {
+  within = prefix_len-le-length _ sums;
+  good = λ k lt. ltb-false _ least (not-true _ (prefix_len_passes _ sums k 0 lt));
+  bad = λ lt. ltb-true _ least (not-false _ (prefix_len_stops _ sums 0 lt));
+}
 
 -- Whether each byte of a vector passes, by the mask of those that do: it has one bit per byte.
 each_bit : (b : Bool) (m full : ℕ) → 0 < full →
@@ -142,33 +116,18 @@ pub all_pass : (p : ℕ → Bool) (v : List ℕ) {z : List ℕ} → length v ≡
     z ≡ map (λ x. flag (p x)) v → eqb (mask_l (map (top 7) z) % 2 ^ 64) 65535 ≡ list_all p v
 all_pass p v long same = grind (arith, common_steps, mask_of p v, all_set p v)
 
--- the sum of a part with one more score
-one_more : (q : List ℕ) (i k : ℕ) → k + i < length q →
-    sum (take (i + 1) (drop k q)) ≡ sum (take i (drop k q)) + get_or q (k + i) 0
-one_more q i k lt = grind (arith, common_steps, take_more, length-drop, sum_by_push, get_or-drop)
-
--- so is each sum of a vector, saturated at 255
-pub lane_more : (offset i k : ℕ) (qual sums scores : List ℕ) → length sums ≡ 32 →
-    i + 32 ≤ length qual → k < 32 →
-    scores ≡ map (λ byte. byte - offset) (take 32 (drop i qual)) →
-    get_or sums k 0 ≡ min 255 (sum (take i (drop k (distances offset qual)))) →
+-- each sum of a vector has one more score, saturated at 255
+pub lane_more : (i k : ℕ) (q sums scores : List ℕ) → length sums ≡ 32 → i + 32 ≤ length q →
+    k < 32 → scores ≡ take 32 (drop i q) →
+    get_or sums k 0 ≡ min 255 (sum (take i (drop k q))) →
     get_or (zip2 (λ x y. min 255 (x + y)) sums scores) k 0
-    ≡ min 255 (sum (take (i + 1) (drop k (distances offset qual))))
-lane_more offset i k qual sums scores long room lt is so_far =
-    let q = distances offset qual in
-    let part = take 32 (drop i qual) in
-    let here : length part ≡ 32 = length-take-le 32 (drop i qual)
-    (omega (arith, length-drop i qual)) in
-    let size : length scores ≡ 32 = ap length is ∙ length-map part (λ byte. byte - offset) ∙ here in
-    let all : length q ≡ length qual = length-map qual (λ byte. byte - offset) in
+    ≡ min 255 (sum (take (i + 1) (drop k q)))
+lane_more i k q sums scores long room lt is so_far =
+    let size = ap length is ∙ length-chunk i 32 q room in
+    let read = ap (λ s. get_or s k 0) is ∙ get_or-chunk i 32 q k 0 lt in
     let place : i + k ≡ k + i = omega arith in
-    let read : get_or scores k 0 ≡ get_or q (k + i) 0 =
-    ap (λ s. get_or s k 0) is
-    ∙ get_or-map (λ byte. byte - offset) part k 0 0 (omega arith)
-    ∙ ap (λ byte. byte - offset) (get_or-chunk i 32 qual k 0 lt)
-    ∙ ap (λ n. get_or qual n 0 - offset) place
-    ∙ sym (get_or-map (λ byte. byte - offset) qual (k + i) 0 0 (omega arith)) in
-    let next = one_more q i k (omega arith) in
+    let at = ap (λ n. get_or q n 0) place in
+    let next = sum_more q i k (omega arith) in
     let both = get_or-zip2 (λ x y. min 255 (x + y)) sums scores k 0 0 0 (omega arith)
     (omega arith) in
     omega arith
@@ -183,28 +142,35 @@ window_behind : (offset start k w : ℕ) (qual : List ℕ) →
 window_behind offset start k w qual =
     grind (arith, common_steps, take_all, length-drop, drop-map, drop-drop)
 
+-- the windows up to index n are good if those before `start` are, and those from there on
+good_from : (offset w least start n : ℕ) (qual : List ℕ) →
+    ((s : ℕ) → s < start → least ≤ sum (take w (drop s (distances offset qual)))) →
+    ((k : ℕ) → start + k < n →
+    least ≤ sum (take w (drop k (distances offset (behind qual start))))) →
+    (s : ℕ) → s < n → least ≤ sum (take w (drop s (distances offset qual)))
+good_from offset w least start n qual before there s lt = ⊎_elim (before s)
+    (λ here.
+    let place : start + (s - start) ≡ s = omega arith in
+    let is = window_behind offset start (s - start) w qual
+    ∙ ap (λ n. sum (take w (drop n (distances offset qual)))) place in
+    omega arith)
+    (cases_lt s start)
+
 -- windows of scores that are all high, after others that are good
 pub good_over_high : (offset w score least start : ℕ) (qual : List ℕ) → least ≡ w * score →
     start + 32 ≤ length qual →
     list_all (leb score) (take 32 (distances offset (behind qual start))) ≡ true →
     ((s : ℕ) → s < start → least ≤ sum (take w (drop s (distances offset qual)))) →
-    (s : ℕ) → s + w ≤ start + 32 → least ≤ sum (take w (drop s (distances offset qual)))
-good_over_high offset w score least start qual least_is fits high before s le = ⊎_elim
-    (λ earlier. before s earlier)
-    (λ here.
+    (s : ℕ) → s + w < start + 33 → least ≤ sum (take w (drop s (distances offset qual)))
+good_over_high offset w score least start qual least_is fits high before s le =
     let part = behind qual start in
-    let len : length part ≡ length qual - start =
-    length-take-le (length qual - start) (drop start qual)
-    (omega (arith, length-drop start qual)) in
-    let all = length-map part (λ byte. byte - offset) in
-    let good = high_window w score 32 (s - start) (distances offset part) (omega arith) high
-    (omega arith) in
-    let is = window_behind offset start (s - start) w qual in
-    let same : sum (take w (drop (start + (s - start)) (distances offset qual)))
-    ≡ sum (take w (drop s (distances offset qual))) =
-    ap (λ n. sum (take w (drop n (distances offset qual)))) (omega arith) in
-    omega arith)
-    (cases_lt s start)
+    let len = length-map part (λ byte. byte - offset) in
+    good_from offset w least start (start + 33 - w) qual before
+    (λ k lt. let good = high_window w score 32 k (distances offset part) (omega (
+      arith,
+      length-take (length qual - start) (drop start qual),
+      length-drop start qual,
+    )) high (omega arith) in omega arith) s (omega arith)
 
 -- Windows from `start` on, the first `good` of which are good, after others that are.
 module _ (offset w least start good : ℕ) (qual sums : List ℕ) (small : least < 256)
@@ -216,18 +182,8 @@ module _ (offset w least start good : ℕ) (qual sums : List ℕ) (small : least
   -- each window that begins before index `start + good` is good
   pub good_up_to : (s : ℕ) → s < start + good →
       least ≤ sum (take w (drop s (distances offset qual)))
-  good_up_to s lt = ⊎_elim
-      (λ earlier. before s earlier)
-      (λ here.
-      let k = s - start in
-      let lane = each k (omega arith) in
-      let enough = high k (omega arith) in
-      let is = window_behind offset start k w qual in
-      let same : sum (take w (drop (start + k) (distances offset qual)))
-      ≡ sum (take w (drop s (distances offset qual))) =
-      ap (λ n. sum (take w (drop n (distances offset qual)))) (omega arith) in
-      omega arith)
-      (cases_lt s start)
+  good_up_to = good_from offset w least start (start + good) qual before (λ k lt.
+      let lane = each k (omega arith) in let enough = high k (omega arith) in omega arith)
 
   -- if the next sum is too small, the window that begins at index `start + good` is bad
   pub bad_there : good < 32 → get_or sums good 0 < least →

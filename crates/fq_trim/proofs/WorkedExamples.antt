@@ -94,39 +94,31 @@ recoding_is_told = refl
 no_recoding_is_told : recodes (Leading 3 ∷ MinLen 36 ∷ []) ≡ false
 no_recoding_is_told = refl
 
-faulty : ℕ → StepFaultKind → Result (List Step) StepFault
+abbrev faulty : ℕ → StepFaultKind → Result (List Step) StepFault
 faulty place kind = Err (record { place = place; kind = kind })
 
 window_of_no_bases : steps_of (codes "SLIDINGWINDOW:0:5" ∷ []) ≡ faulty 1 OutOfRange
-unfolding faulty
 window_of_no_bases = refl
 
 second_word_without_its_number : steps_of (codes "CROP:3" ∷ codes "CROP" ∷ []) ≡ faulty 2 WrongCount
-unfolding faulty
 second_word_without_its_number = refl
 
 number_with_a_sign : steps_of (codes "MINLEN:+5" ∷ []) ≡ faulty 1 BadNumber
-unfolding faulty
 number_with_a_sign = refl
 
 unknown_name : steps_of (codes "FOO:1" ∷ []) ≡ faulty 1 Unknown
-unfolding faulty
 unknown_name = refl
 
 empty_number_too_many : steps_of (codes "TOPHRED33:" ∷ []) ≡ faulty 1 WrongCount
-unfolding faulty
 empty_number_too_many = refl
 
 no_words : steps_of [] ≡ faulty 0 NoSteps
-unfolding faulty
 no_words = refl
 
 empty_number : steps_of (codes "CROP:" ∷ []) ≡ faulty 1 BadNumber
-unfolding faulty
 empty_number = refl
 
 ten_digits : steps_of (codes "MINLEN:0000000001" ∷ []) ≡ faulty 1 BadNumber
-unfolding faulty
 ten_digits = refl
 
 all_kinds : steps_of (codes "LEADING:3" ∷ codes "TRAILING:03" ∷ codes "CROP:999999999" ∷ codes

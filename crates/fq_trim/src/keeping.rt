@@ -107,6 +107,7 @@ fn head_crop(bases: u32, qual: &[u8]) -> Span
 
 // The bases up to the last with a score of at least `score` that is before the end of the first bad
 // window. A window is bad if its scores sum to less than `width * score`.
+#[tactic(auto, using(crate::proofs::PlaceLemmas::all_taken))]
 #[inline(always)]
 fn sliding_window(encoding: Encoding, width: u32, score: u32, qual: &[u8]) -> Span
     requires window { 0 < width }

@@ -71,6 +71,7 @@ fn low_after(scores: u8x16, score: u8) -> usize
 
 // The scores in reverse order.
 #[inline(always)]
+#[tactic(auto, using(crate::proofs::LowEndLemmas::turned_at))]
 fn turned(scores: u8x16) -> u8x16
     ensures long { length result ≡ TOGETHER }
     ensures each { (k : ℕ) → k < TOGETHER

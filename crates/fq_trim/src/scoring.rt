@@ -11,6 +11,7 @@ use fq_text::Encoding;
 const CHUNK: usize = 1 << 24;
 
 /// The sum of the scores.
+#[tactic(auto, using(crate::proofs::PlaceLemmas::sum_small))]
 pub(crate) fn total_of(encoding: Encoding, qual: &[u8]) -> u128
     requires { list_all (is_scored encoding) qual.now ≡ true }
     ensures sum { result ≡ sum (scores encoding qual.now) }
@@ -24,6 +25,7 @@ pub(crate) fn total_of(encoding: Encoding, qual: &[u8]) -> u128
 }
 
 // The sum of the scores of a chunk.
+#[tactic(auto, using(std::proofs::lemmas::Grind::common_steps, fq_text::proofs::ScoreLemmas::at_place, fq_text::proofs::ScoreLemmas::value_small))]
 fn sum_of(encoding: Encoding, qual: &[u8]) -> u32
     requires few { length qual.now ≤ CHUNK }
     requires scored { list_all (is_scored encoding) qual.now ≡ true }

@@ -24,6 +24,7 @@ pub struct Kept {
 /// kept. The result is a `Span` and not an `Option`, since its two numbers are returned in
 /// registers; with a tag they would go through memory. `Trimmed::new` of `fq_report_reads` walks
 /// the same steps, and notes which of them shorten or drop the read.
+#[tactic(auto, using(crate::proofs::PlaceLemmas::all_taken, crate::proofs::PlaceLemmas::all_dropped))]
 pub(crate) fn trim_by(steps: &[Step], encoding: Encoding, qual: &[u8]) -> Span
     requires in_range { list_all is_in_range steps.now ≡ true }
     requires scored { list_all (is_scored encoding) qual.now ≡ true }

@@ -122,6 +122,7 @@ fn lower_of(left: u8x16, right: u8x16) -> u8x16
 
 // Whether no score is below `score`.
 #[inline(always)]
+#[tactic(auto, using(std::proofs::lemmas::Simd::zip2_splat_left, crate::proofs::WindowLemmas::all_pass))]
 fn are_at_least(score: u8, scores: u8x16) -> bool
     ensures { result ≡ list_all (nat_le score) scores }
 {
@@ -147,6 +148,7 @@ fn sums_of(offset: u8, width: usize, qual: &[u8]) -> u8x32
 
 // The sum of the two bytes at each index. Sums saturate at 255.
 #[inline(always)]
+#[tactic(auto, using(crate::proofs::WindowLemmas::each_plus))]
 fn plus(left: u8x32, right: u8x32) -> u8x32
     ensures { result ≡ zip2 (λ x y. min 255 (x + y)) left right }
 {
@@ -170,6 +172,7 @@ fn first_below(sums: u8x32, least: u8) -> usize
 //
 // If a read begins with high scores, the windows of these alone are good, so the first window that
 // is summed is the last of them.
+#[tactic(auto, using(crate::proofs::PlaceLemmas::all_taken, crate::proofs::PlaceLemmas::all_dropped))]
 fn stop_one_by_one(encoding: Encoding, width: usize, score: u32, least: u64, qual: &[u8]) -> usize
     requires window { 0 < width }
     requires fits { width ≤ length qual.now }
@@ -223,6 +226,7 @@ fn stop_from(
 // before it is bad.
 //
 // Whole chunks are compared, so more such bases may follow.
+#[tactic(auto, using(crate::proofs::PlaceLemmas::all_taken, crate::proofs::PlaceLemmas::all_dropped))]
 fn high_stop(encoding: Encoding, score: u32, qual: &[u8]) -> usize
     requires { list_all (is_scored encoding) qual.now ≡ true }
     ensures within { result ≤ length qual.now }

@@ -20,6 +20,7 @@ pub(crate) fn parse_word(word: &str) -> Result<Step, StepFaultKind>
 }
 
 // The first piece of a text, and the text after its colon.
+#[tactic(auto, using(std::proofs::lemmas::Grind::common_steps, crate::proofs::WordLemmas::pieces_none, std::proofs::lemmas::List::Splits::slice_split_first))]
 fn cut_piece(text: &str) -> (&str, Option<&str>)
     ensures { pieces text.now ≡ result.0.now ∷ pieces_in result.1 }
 {
@@ -30,6 +31,7 @@ fn cut_piece(text: &str) -> (&str, Option<&str>)
 }
 
 // The step of a name and the text of its numbers, or the first fault.
+#[tactic(auto, using(std::proofs::lemmas::Grind::common_steps, crate::proofs::WordLemmas::pieces_behind, crate::proofs::WordLemmas::wrong_count))]
 fn parse_step(name: &str, numbers: Option<&str>) -> Result<Step, StepFaultKind>
     ensures value { result ≡ step_of_kind (kind_of name.now) (pieces_in numbers.entry) }
     ensures in_range { IfOk result (λ step. is_in_range step ≡ true) }
@@ -51,6 +53,7 @@ fn parse_step(name: &str, numbers: Option<&str>) -> Result<Step, StepFaultKind>
 }
 
 // The one number of a step.
+#[tactic(auto, using(std::proofs::lemmas::Grind::common_steps, crate::proofs::WordLemmas::pieces_behind, crate::proofs::WordLemmas::wrong_count))]
 fn one_number(numbers: Option<&str>) -> Result<u32, StepFaultKind>
     ensures value { result ≡ result_map (λ values. slice_index values 0)
         (numbers_of (0 ∷ []) (pieces_in numbers.entry)) }
@@ -67,6 +70,7 @@ fn one_number(numbers: Option<&str>) -> Result<u32, StepFaultKind>
 }
 
 // The sliding window step with the width and the score in this text.
+#[tactic(auto, using(std::proofs::lemmas::Grind::common_steps, crate::proofs::WordLemmas::pieces_behind, crate::proofs::WordLemmas::wrong_count))]
 fn sliding_window(numbers: Option<&str>) -> Result<Step, StepFaultKind>
     ensures value { result
         ≡ result_map (λ values. SlidingWindow (slice_index values 0) (slice_index values 1))
@@ -93,6 +97,7 @@ fn sliding_window(numbers: Option<&str>) -> Result<Step, StepFaultKind>
 }
 
 // The number that a piece of text writes.
+#[tactic(auto, using(std::proofs::lemmas::Grind::common_steps, crate::proofs::WordLemmas::number_read, crate::proofs::WordLemmas::number_small))]
 fn number(piece: &str) -> Result<u32, StepFaultKind>
     ensures value { result
         ≡ (if is_number piece.now then Ok (number_of piece.now) else Err StepFaultKind.BadNumber) }

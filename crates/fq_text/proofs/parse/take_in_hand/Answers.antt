@@ -15,7 +15,7 @@ use Rattle.fq_text.specs.declared.unwrapped.Shape.{Shape}
 use Rattle.fq_text.specs.declared.encoding.Encoding.{Encoding}
 use Rattle.fq_text.specs.Devices.{FeedState}
 use Rattle.fq_text.proofs.AdvanceLemmas.{behind_line, behind_reads, reads_none}
-use Rattle.fq_text.proofs.UnwrappedLemmas.{taken_same, taken_whole}
+use Rattle.fq_text.proofs.UnwrappedLemmas.{taken_same}
 use Rattle.fq_text.proofs.WrittenLemmas.{not_lf, Ends, pieces_line, AreItsLines, sound_qual, four_lines, four, to_quality, ends_in_lf, clean_bases, plain_bases, plain_behind, quals_are_bases}
 use Rattle.fq_text.proofs.GrammarLemmas.{quality_goes, quality_ends}
 use Rattle.fq_text.proofs.LineLemmas.{whole_to}
@@ -99,7 +99,6 @@ module _ (encoding : Encoding) (hand : List ℕ) (s : Shape) (p : IsFourLines ha
       let n = s.bases in
       let a = s.again in
       let e = s.end in
-      let fits = p.fits in
       let end = bytes_of is in
       let title = take t (drop 1 hand) in
       let seq = take n (drop (t + e + 1) hand) in
@@ -153,8 +152,6 @@ module _ (encoding : Encoding) (hand : List ℕ) (s : Shape) (p : IsFourLines ha
   -- the bytes used up to the end of such lines are complete lines
   whole_first : is_whole (take (four_len s) hand) ≡ true
   whole_first =
-      let fits = p.fits in
-      let some : 0 < s.end = ⊎_elim (λ one. omega arith) (λ two. omega arith) is in
       let last = s.title + s.bases + s.bases + s.again + 3 * s.end + 2 + s.end - 1 in
       let len : four_len s ≡ suc last = omega arith in
       ap (λ m. is_whole (take m hand)) len ∙ whole_to hand last (omega arith) p.ends.qual.lf
@@ -215,7 +212,6 @@ found_in_hand : (encoding : Encoding) (hand : List ℕ) (s : Shape) (ls : List (
     ≡ Found (unwrapped encoding s (drop 1 hand)) ls
 found_in_hand encoding hand s ls p =
     let r = unwrapped encoding s (drop 1 hand) in
-    let fits = p.lines.fits in
     ap (λ xs. front encoding (lines xs ++ ls)) (lines_first encoding hand s p.lines p.shape.end)
     ∙ found_first (bytes_of p.shape.end) (take s.again (drop 1 hand)) r ls
     (its_lines encoding hand s p)
@@ -231,14 +227,14 @@ found_in_hand encoding hand s ls p =
 module _ {F : Type 0} (state : F → FeedState) where
   -- a reader that takes a record out of the bytes in hand is after it
   goes_first : (a b : Lined F) (encoding : Encoding) (s : Shape) (k : ℕ) →
-      b ≡ behind_line state a k (four_len s) → BeginsWithRecord encoding a.in_hand s →
+      b ≡ behind_line a k (four_len s) → BeginsWithRecord encoding a.in_hand s →
       Goes state a b (front encoding) (Found (unwrapped encoding s (drop 1 a.in_hand)))
   goes_first a b encoding s k is p =
       let len = four_len s in
       subst (λ (r : Lined F). Goes state a r (front encoding)
       (Found (unwrapped encoding s (drop 1 a.in_hand)))) (sym is) (record {
         used = take len a.in_hand;
-        reads = behind_reads state a a k len (reads_none state a);
+        reads = behind_reads k len (reads_none a);
         closed = inl (whole_first encoding a.in_hand s p.lines p.shape.end);
         answer = λ ls. found_in_hand encoding a.in_hand s ls p;
         small = λ lt. omega (arith, length-drop len a.in_hand);
@@ -259,8 +255,4 @@ returns-clause-found g c =
     subst (λ (r : Read). Goes g.F.Feed.state a b (front e) (Found r))
     (sym (taken_same e a.in_hand s first b.line line))
     (goes_first g.F.Feed.state a b e s (lines_len s) (took
-    ∙ ap (λ n. behind_line g.F.Feed.state a (lines_len s) n) used) first)
-
--- the bytes that were taken are enough for the four lines of the shape
-pub returns-clause-whole : goal.returns-clause-whole
-returns-clause-whole g c = grind (arith, common_steps, taken_whole)
+    ∙ ap (λ n. behind_line a (lines_len s) n) used) first)

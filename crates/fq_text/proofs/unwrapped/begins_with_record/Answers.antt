@@ -1,7 +1,7 @@
 use Rattle.std.proofs.Common.{rules, ◌≡◌, ℕ, List, true, not, eqb, drop, ap, sym, subst}
 use Rattle.std.specs.List.{list_all}
 use Rattle.fq_text.specs.Grammar.{Read, IsLawful}
-use Rattle.fq_text.proofs.UnwrappedLemmas.{one_line_to}
+use Rattle.fq_text.proofs.LineLemmas.{one_line_to}
 use Rattle.fq_text.proofs.unwrapped.begins_with_record.Goals as goal
 
 -- the title is a first line, so it holds no LF

@@ -1,4 +1,4 @@
-use Rattle.std.proofs.Common.{◌≡◌, ℕ, ◌+◌, ◌-◌, List, length, take, drop, refl, sym, subst, ◌∙◌, arith}
+use Rattle.std.proofs.Common.{◌≡◌, ℕ, ◌+◌, ◌-◌, List, length, take, drop, refl, subst, arith}
 use Rattle.std.proofs.lemmas.List.{take_rest}
 use Rattle.fq_text.specs.Reading.{NoLf}
 use Rattle.fq_text.specs.Unwrapped.{IsFirstLine, BeginsWithRecord}

@@ -1,19 +1,17 @@
-use Rattle.std.proofs.Common.{length, ◌-◌, ◌∙◌, sym, arith, leb, ◌≡◌, Bool, true, false, ◌&&◌, refl, ℕ, List, [], ◌∷◌, ap, ◌≤◌, ltb, ⊎_elim, map, ap₂, zero, suc, take, drop, ◌+◌, take-add}
+use Rattle.std.proofs.Common.{length, ◌-◌, ◌∙◌, sym, arith, leb, ◌≡◌, Bool, true, false, ◌&&◌, refl, ℕ, List, [], ◌∷◌, ap, ◌≤◌, ltb, ⊎_elim, map, ap₂, take, drop, ◌+◌, take-add}
 use Rattle.std.specs.List.{list_all}
 use lib.Lanes.{chunk, top, zip2, sel_l}
-use Rattle.std.proofs.lemmas.Bool.{and_from, and_parts, cases_Bool}
-use Rattle.std.proofs.lemmas.List.{take-append-drop, length-drop, take_all, take-take}
+use Rattle.std.proofs.lemmas.Bool.{and_parts, cases_Bool}
+use Rattle.std.proofs.lemmas.List.{length-drop, take_all, take-take}
 use Rattle.std.proofs.lemmas.List.Folds.{list_all-append}
 use Rattle.std.proofs.lemmas.Simd.{length-chunk}
 use Rattle.std.proofs.lemmas.Grind.{common_steps}
 use Rattle.fq_text.specs.Scores.{is_from}
-use Rattle.fq_text.proofs.VectorLemmas.{flag}
+use Rattle.fq_text.proofs.ScoreLemmas.{all_parts}
+use Rattle.fq_text.proofs.VectorLemmas.{flag, both_in}
 use Rattle.fq_text.proofs.vectors.are_from.Goals as goal
 
 -- Conditions that are joined in another order.
-both_in : (a b c d : Bool) → (a && b) && (c && d) ≡ (a && c) && (b && d)
-both_in a b c d = grind (arith, common_steps)
-
 last_in_front : (t l c : Bool) → (t && l) && c ≡ (t && c) && l
 last_in_front t l c = grind (arith, common_steps)
 
@@ -49,17 +47,6 @@ all_largest high (x ∷ xs) (y ∷ ys) long = grind (arith, common_steps, all_la
 
 -- Parts of which each byte passes.
 module _ (p : ℕ → Bool) where
-  all_of_front : (n : ℕ) (xs : List ℕ) → list_all p xs ≡ true → list_all p (take n xs) ≡ true
-  all_of_front zero xs all = refl
-  all_of_front (suc n) [] all = refl
-  all_of_front (suc n) (x ∷ xs) all = let parts = and_parts (p x) (list_all p xs) all in
-      and_from _ _ parts.0 (all_of_front n xs parts.1)
-
-  in_parts : (n : ℕ) (xs : List ℕ) → list_all p xs ≡ list_all p (take n xs) && list_all p
-      (drop n xs)
-  in_parts n xs = ap (list_all p) (sym (take-append-drop n xs))
-      ∙ list_all-append p (take n xs) (drop n xs)
-
   more_in_front : (start n : ℕ) (xs : List ℕ) →
       list_all p (take (start + n) xs) ≡ list_all p (take start xs) && list_all p (chunk start n xs)
   more_in_front start n xs = grind (arith, common_steps, take-add, list_all-append)
@@ -69,9 +56,9 @@ module _ (p : ℕ → Bool) where
   by_the_last start last n xs whole passed front =
       let before : list_all p (take last xs) ≡ true =
       ap (list_all p) (sym (take-take last start xs passed))
-      ∙ all_of_front last (take start xs) front in
+      ∙ (and_parts _ _ (sym (all_parts p last (take start xs)) ∙ front)).0 in
       ap (list_all p) (take_all n (drop last xs) (omega (arith, length-drop last xs)))
-      ∙ sym (in_parts last xs ∙ ap (λ b. b && list_all p (drop last xs)) before)
+      ∙ sym (all_parts p last xs ∙ ap (λ b. b && list_all p (drop last xs)) before)
 
   -- the bytes before an index, and the last ones, which begin there or earlier
   with_the_last : (start last n : ℕ) (xs : List ℕ) → last + n ≡ length xs → last ≤ start →
@@ -80,7 +67,7 @@ module _ (p : ℕ → Bool) where
       (λ (front : list_all p (take start xs) ≡ true). ap (λ b. b && list_all p (chunk last n xs))
       front ∙ by_the_last start last n xs whole passed front)
       (λ (bad : list_all p (take start xs) ≡ false). ap (λ b. b && list_all p (chunk last n xs)) bad
-      ∙ sym (in_parts start xs ∙ ap (λ b. b && list_all p (drop start xs)) bad))
+      ∙ sym (all_parts p start xs ∙ ap (λ b. b && list_all p (drop start xs)) bad))
       (cases_Bool (list_all p (take start xs)))
 
 -- The least and the greatest bytes so far, and those of one more vector.
@@ -116,7 +103,6 @@ loop-start-init c = record {
 -- the least and the greatest bytes now check one more vector
 pub loop-start-preserved : goal.loop-start-preserved
 loop-start-preserved c =
-    let more = c.loop-start-test.true in
     let bytes = c.args.bytes.now in
     record {
       room = omega arith;
@@ -129,8 +115,6 @@ loop-start-preserved c =
 -- the vectors so far and the last one hold all bytes
 pub returns : goal.returns
 returns c =
-    let long = c.if-bytes-lt-WIDTH.false in
-    let past = c.loop-start-test.false in
     c.are_between.ensures
     ∙ c.loop-start.invariant.judged
     ∙ with_the_last (is_from c.args.lowest) c.loop-start.start (length c.args.bytes.now - 32) 32

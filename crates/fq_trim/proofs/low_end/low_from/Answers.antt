@@ -16,9 +16,7 @@ pub loop-stop-preserved : goal.loop-stop-preserved
 loop-stop-preserved c =
     let old = c.loop-stop.invariant in
     let here = c.low_after-low.ensures in
-    let all = c.if-low-lt-TOGETHER.false in
     let within = old.within in
-    let few = here.within in
     record {
       within = omega arith;
       low = λ k from lt.

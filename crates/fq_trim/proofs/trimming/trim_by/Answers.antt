@@ -1,17 +1,9 @@
 use Rattle.std.proofs.Common.{◌≡◌, ◌+◌, ◌-◌, drop, arith, ap, sym, ◌∙◌}
 use Rattle.std.proofs.lemmas.List.{drop_more}
 use Rattle.fq_trim.specs.declared.step.Step.TheVariants.{Leading}
-use Rattle.fq_text.specs.Scores.{is_scored}
 use Rattle.fq_trim.specs.Keeping.{scores, kept_of, places}
-use Rattle.fq_trim.proofs.PlaceLemmas.{step_keeps, length-scores, part_between, all_taken, all_dropped}
+use Rattle.fq_trim.proofs.PlaceLemmas.{step_keeps, length-scores, part_between}
 use Rattle.fq_trim.proofs.trimming.trim_by.Goals as goal
-
--- each byte that is left has a score
-pub kept_by-left-requires-clause-scored : goal.kept_by-left-requires-clause-scored
-kept_by-left-requires-clause-scored c =
-    let e = c.args.encoding in
-    all_taken (is_scored e) _ (c.loop-step.stop - c.loop-step.start)
-    (all_dropped (is_scored e) c.args.qual.now c.loop-step.start c.requires.scored)
 
 -- of the bases that are left, the step leaves those between two indices
 pub loop-step-preserved : goal.loop-step-preserved
@@ -26,8 +18,6 @@ loop-step-preserved c =
     let e = c.args.encoding in
     let qual = c.args.qual.now in
     let part = part_between e qual _ start stop lo hi order within c.kept_by-left.ensures in
-    let o = part.order in
-    let w = part.within in
     let rest = drop (c.loop-step.step-index + 1) c.args.steps.now in
     let len = length-scores e qual in
     let width : start + hi - (start + lo) ≡ hi - lo = omega arith in

@@ -1,24 +1,15 @@
 use Rattle.std.proofs.Common.{◌≡◌, ◌-◌, ◌+◌, arith, ap, sym, ◌∙◌, true, nat_le, take, drop}
 use Rattle.std.specs.List.{list_all}
-use Rattle.fq_text.specs.Scores.{is_scored}
 use Rattle.fq_trim.specs.Keeping.{scores}
 use Rattle.fq_trim.specs.declared.windows.TheConstants.{HIGH_CHUNK}
-use Rattle.fq_trim.proofs.PlaceLemmas.{all_taken, all_dropped, scores_of_part, high_more}
+use Rattle.fq_trim.proofs.PlaceLemmas.{scores_of_part, high_more}
 use Rattle.fq_trim.proofs.windows.high_stop.Goals as goal
-
--- each byte of the next chunk has a score
-pub are_high-requires : goal.are_high-requires
-are_high-requires c =
-    let stop = c.loop-stop.stop in
-    all_taken (is_scored c.args.encoding) (drop stop c.args.qual.now) _
-    (all_dropped (is_scored c.args.encoding) c.args.qual.now stop c.requires)
 
 -- a chunk of high scores comes after the high scores so far
 pub loop-stop-preserved : goal.loop-stop-preserved
 loop-stop-preserved c =
     let stop = c.loop-stop.stop in
     let q = scores c.args.encoding c.args.qual.now in
-    let room = c.loop-stop-test.true in
     let within = c.loop-stop.invariant.within in
     let size : stop + HIGH_CHUNK - stop ≡ HIGH_CHUNK = omega arith in
     let next : list_all (nat_le c.args.score) (take HIGH_CHUNK (drop stop q)) ≡ true =

@@ -5,8 +5,7 @@ use Rattle.fq_trim.proofs.windows.pass_good.Goals as goal
 -- if the 32 scores are all high, each window of them alone is good
 pub returns-then-are_all_high-clause-next : goal.returns-then-are_all_high-clause-next
 returns-then-are_all_high-clause-next c =
-    let fits = c.requires.fits in
-    let narrow = c.requires.narrow in (
+    let fits = c.requires.fits in (
       omega arith,
       λ end. omega arith,
       λ s lt. good_over_high c.args.offset c.args.width c.args.score c.args.least c.args.start
@@ -18,11 +17,7 @@ returns-then-are_all_high-clause-next c =
 pub returns-then-good-lt-TOGETHER-clause-stop : goal.returns-then-good-lt-TOGETHER-clause-stop
 returns-then-good-lt-TOGETHER-clause-stop c =
     let found = c.first_below-good.ensures in
-    let long = c.sums_of.ensures.long in
-    let within = found.within in
     let small : c.args.least < 256 = c.ranges.least.fits in
-    let fits = c.requires.long in
-    let from = c.min-from.ensures in
     let few = c.if-good-lt-TOGETHER.true in
     stops_there c.args.offset c.args.width c.args.least c.min-from.result c.first_below-good.result
     c.args.qual.now c.sums_of.result small c.sums_of.ensures.each (omega arith)
@@ -33,15 +28,7 @@ returns-then-good-lt-TOGETHER-clause-stop c =
 pub returns-clause-next : goal.returns-clause-next
 returns-clause-next c =
     let found = c.first_below-good.ensures in
-    let long = c.sums_of.ensures.long in
-    let within = found.within in
-    let small : c.args.least < 256 = c.ranges.least.fits in
-    let fits = c.requires.fits in
-    let room = c.requires.long in
-    let narrow = c.requires.narrow in
-    let some = c.requires.window in
-    let from = c.min-from.ensures in
-    let all = c.if-good-lt-TOGETHER.false in (
+    let small : c.args.least < 256 = c.ranges.least.fits in (
       omega arith,
       λ end. omega arith,
       λ s lt. good_up_to c.args.offset c.args.width c.args.least c.min-from.result

@@ -9,7 +9,6 @@ pub overflow_add-sum : goal.overflow_add-sum
 overflow_add-sum c =
     let small = part_small c.args.encoding c.args.qual.now (c.loop-end.end - c.args.width)
     c.args.width c.requires.scored in
-    let entering = part_small c.args.encoding c.args.qual.now c.loop-end.end 1 c.requires.scored in
     omega arith
 
 -- the score that leaves the window is part of the sum
@@ -17,7 +16,7 @@ pub overflow_sub-sum : goal.overflow_sub-sum
 overflow_sub-sum c =
     let from = c.loop-end.invariant.from in
     let next = next_window c.args.encoding c.args.qual.now c.args.width c.loop-end.end
-    c.requires.window from c.loop-end-test.true in
+    from c.loop-end-test.true in
     omega arith
 
 -- the window whose last base is at index `end` is the first bad one
@@ -26,9 +25,8 @@ returns-then-sum-least c =
     let old = c.loop-end.invariant in
     let from = old.from in
     let next = next_window c.args.encoding c.args.qual.now c.args.width c.loop-end.end
-    c.requires.window from c.loop-end-test.true in
+    from c.loop-end-test.true in
     let len = length-scores c.args.encoding c.args.qual.now in
-    let low = c.if-sum-least.true in
     record {
       within = omega arith;
       some = omega arith;
@@ -44,9 +42,8 @@ loop-end-preserved c =
     let end = c.loop-end.end in
     let old = c.loop-end.invariant in
     let from = old.from in
-    let next = next_window c.args.encoding c.args.qual.now w end c.requires.window from
+    let next = next_window c.args.encoding c.args.qual.now w end from
     c.loop-end-test.true in
-    let high = c.if-sum-least.false in
     record {
       from = omega arith;
       total = omega arith;

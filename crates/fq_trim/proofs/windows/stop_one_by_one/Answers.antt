@@ -1,15 +1,7 @@
-use Rattle.std.proofs.Common.{refl, ◌≡◌, ◌+◌, ◌-◌, arith, ap, sum, take, drop}
-use Rattle.fq_text.specs.Scores.{is_scored}
+use Rattle.std.proofs.Common.{◌≡◌, ◌+◌, ◌-◌, arith, ap, sum, take, drop}
 use Rattle.fq_trim.specs.Keeping.{scores}
-use Rattle.fq_trim.proofs.PlaceLemmas.{length-scores, all_taken, all_dropped, from_sum, from_good, from_bad}
+use Rattle.fq_trim.proofs.PlaceLemmas.{length-scores, from_sum, from_good, from_bad}
 use Rattle.fq_trim.proofs.windows.stop_one_by_one.Goals as goal
-
--- each byte of the window that is summed first has a score
-pub total_of-first-requires : goal.total_of-first-requires
-total_of-first-requires c =
-    let start = c.max-from.result - c.args.width in
-    all_taken (is_scored c.args.encoding) (drop start c.args.qual.now) _
-    (all_dropped (is_scored c.args.encoding) c.args.qual.now start c.requires.scored)
 
 -- if the window that is summed first is bad, it is the first of the read
 pub returns-then-first-least : goal.returns-then-first-least
@@ -17,13 +9,10 @@ returns-then-first-least c =
     let q = scores c.args.encoding c.args.qual.now in
     let w = c.args.width in
     let high = c.high_stop.ensures in
-    let least = c.requires.least in
-    let low = c.if-first-least.true in
-    let bad = from_bad c.args.encoding c.args.qual.now w c.args.score c.args.score _ _ _ refl
+    let bad = from_bad c.args.encoding c.args.qual.now w c.args.score _ _ _
     c.requires.fits high.within high.high c.max-from.ensures c.total_of-first.ensures.sum
     (omega arith) in
     let len = length-scores c.args.encoding c.args.qual.now in
-    let fits = c.requires.fits in
     let some = c.requires.window in
     record {
       within = omega arith;
@@ -39,16 +28,14 @@ returns-then-first-least c =
 pub stop_from-requires-clause-sum : goal.stop_from-requires-clause-sum
 stop_from-requires-clause-sum c =
     let high = c.high_stop.ensures in
-    from_sum c.args.encoding c.args.qual.now c.args.width c.args.score c.args.score _ _ _ refl
+    from_sum c.args.encoding c.args.qual.now c.args.width c.args.score _ _ _
     c.requires.fits high.within high.high c.max-from.ensures c.total_of-first.ensures.sum
 
 -- each window that ends at or before `from` is good
 pub stop_from-requires-clause-good : goal.stop_from-requires-clause-good
 stop_from-requires-clause-good c = λ s le.
     let high = c.high_stop.ensures in
-    let least = c.requires.least in
-    let enough = c.if-first-least.false in
-    let good = from_good c.args.encoding c.args.qual.now c.args.width c.args.score c.args.score _ _
-    _ refl c.requires.fits high.within high.high c.max-from.ensures c.total_of-first.ensures.sum
+    let good = from_good c.args.encoding c.args.qual.now c.args.width c.args.score _ _ _
+    c.requires.fits high.within high.high c.max-from.ensures c.total_of-first.ensures.sum
     (omega arith) s le in
     omega arith

@@ -1,5 +1,6 @@
-use Rattle.std.proofs.Common.{refl, arith, ap, ◌∙◌, get_or}
-use Rattle.std.proofs.lemmas.List.{get_or-replicate}
+use Rattle.std.proofs.Common.{refl, arith, ap, ◌∙◌, ◌-◌, ℕ, map, get_or}
+use Rattle.std.proofs.lemmas.List.{get_or-replicate, length-map}
+use Rattle.fq_trim.proofs.PlaceLemmas.{map_part}
 use Rattle.fq_trim.proofs.WindowLemmas.{lane_more}
 use Rattle.fq_trim.proofs.windows.sums_of.Goals as goal
 
@@ -13,13 +14,14 @@ loop-i-init c = record {
 -- each sum is now that of one more base
 pub loop-i-preserved : goal.loop-i-preserved
 loop-i-preserved c =
-    let fits = c.requires.fits in
     let old = c.loop-i.invariant in
-    let more = c.loop-i-test.true in
+    let less = λ (byte : ℕ). byte - c.args.offset in
+    let q = map less c.args.qual.now in
+    let len = length-map c.args.qual.now less in
     record {
       long = c.type_inv.sums.0;
       each = λ k lt. ap (λ sums. get_or sums k 0) c.plus-sums.ensures
-          ∙ lane_more c.args.offset c.loop-i.i k c.args.qual.now c.loop-i.sums
-          c.less_32-scores.result old.long (omega arith) lt c.less_32-scores.ensures
+          ∙ lane_more c.loop-i.i k q c.loop-i.sums c.less_32-scores.result old.long
+          (omega arith) lt (c.less_32-scores.ensures ∙ map_part less c.loop-i.i 32 c.args.qual.now)
           (old.each k lt);
     }

@@ -1,25 +1,8 @@
-use Rattle.std.proofs.Common.{◌≡◌, ℕ, ◌+◌, ◌<◌, true, List, ◌++◌, length, map, take, drop, get_or, set, arith, ap, ◌∙◌}
-use Rattle.std.specs.List.{list_all}
+use Rattle.std.proofs.Common.{◌+◌, get_or, set, arith, ap, ◌∙◌}
 use Rattle.std.proofs.lemmas.List.{get_or_default}
 use Rattle.std.proofs.lemmas.List.Edits.{map_over_more}
-use Rattle.std.proofs.lemmas.Grind.{common_steps}
-use Rattle.fq_text.specs.declared.encoding.Encoding.{Encoding}
-use Rattle.fq_text.specs.Scores.{is_scored, recoded}
-use Rattle.fq_text.proofs.ScoreLemmas.{value_small}
+use Rattle.fq_text.specs.Scores.{recoded}
 use Rattle.fq_text.proofs.encoding.Encoding.recode.Goals as goal
-
-next_scored : (e : Encoding) (was now : List ℕ) (i : ℕ) → list_all (is_scored e) was ≡ true →
-    i < length was → now ≡ map (recoded e) (take i was) ++ drop i was →
-    is_scored e (get_or now i 0) ≡ true
-next_scored e was now i all within is = grind (arith, common_steps)
-
--- the next byte has a score
-pub phred-requires : goal.phred-requires
-phred-requires c = grind (arith, common_steps, next_scored)
-
--- the score of the next byte is at most 93
-pub from_score33-requires : goal.from_score33-requires
-from_score33-requires c = grind (arith, common_steps, next_scored, value_small)
 
 -- the next byte is recoded, and the others stay as they are
 pub loop-byte-preserved : goal.loop-byte-preserved

@@ -2,7 +2,7 @@ use Rattle.std.proofs.Common.{◌≡◌, ℕ, ◌+◌, ◌<◌, ◌≤◌, List,
 use Rattle.std.proofs.lemmas.List.{length-drop}
 use Rattle.std.proofs.lemmas.Grind.{common_steps}
 use Rattle.fq_text.specs.Reading.{Lined, NoLf}
-use Rattle.fq_text.proofs.AdvanceLemmas.{judged_as, sound_behind, takes_to, takes_all, long_taken, long_waiting}
+use Rattle.fq_text.proofs.AdvanceLemmas.{judged_as, sound_behind, takes_to, long_taken}
 use Rattle.fq_text.proofs.lines.LineReader.advance.Goals as goal
 
 -- the first line end is not among the bytes that hold none
@@ -21,25 +21,8 @@ returns-in-Some-clause-step g c =
     let hand = ap (λ (r : Lined g.row.F.Denot). length r.in_hand) is
     ∙ length-drop (at + 1) c.loop-at.self.in_hand in
     let chunk = ap (λ (r : Lined g.row.F.Denot). r.chunk) is in
-    let same = old.reads.chunk in
-    let line = takes_to g.F.Feed.state c.args.self.now c.loop-at.self c.take_line.new.self at is
-    old.reads c.in-Some.ensures.place
+    let line = takes_to at is old.reads c.in-Some.ensures.place
     (λ lt. let room = old.small lt in omega arith) in
     judged_as c.judged.result _ _ (length c.take_line.new.self.line) c.judged.ensures.ok
-    c.judged.ensures.err
-    (λ fits. (line, fits))
-    (λ long. (
-      refl,
-      long_taken g.F.Feed.state c.args.self.now c.take_line.new.self line
-          (sound_behind g.F.Feed.state c.loop-at.self c.take_line.new.self at (at + 1) is old.sound)
-          long,
-    ))
-
--- so many bytes without a line end belong to a line that is too long
-pub returns-then-scanned-clause-step : goal.returns-then-scanned-clause-step
-returns-then-scanned-clause-step g c = grind (arith, common_steps, long_waiting)
-
--- the feed has ended: the bytes in hand are the last line, which may be too long
-pub returns-then-self-clause-step : goal.returns-then-self-clause-step
-returns-then-self-clause-step g c =
-    grind (arith, common_steps, takes_all, judged_as, long_taken, sound_behind)
+    c.judged.ensures.err (λ fits. (line, fits))
+    (λ long. (refl, long_taken line (sound_behind _ _ is old.sound) long))
