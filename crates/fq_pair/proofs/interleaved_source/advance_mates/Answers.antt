@@ -1,13 +1,13 @@
 -- The forward mate is kept, and the current record is its reverse mate.
-use Rattle.std.proofs.Common.{◌≡◌, true, false, Some, Ok, refl, is_some, arith, rules, ℕ, List, length, ap, ◌∙◌, ◌+◌, ◌++◌, suc, Bool, IsTrue, sym, ◌⊎◌, [], ⊎_elim, ◌*◌, Err, ◌≤◌, add-one, subst, Option}
+use Rattle.std.proofs.Common.{◌≡◌, true, false, Some, Ok, refl, is_some, arith, rules, ℕ, List, length, ap, ◌∙◌, ◌+◌, ◌++◌, suc, Bool, IsTrue, sym, ◌⊎◌, [], ⊎_elim, ◌*◌, Err, ◌≤◌, add-one}
 use Rattle.std.specs.Option.{IsSomeAnd}
 use Rattle.std.proofs.lemmas.Grind.{common_steps}
 use Rattle.std.proofs.lemmas.Result.{err_from_is_err_and}
 use Rattle.std.proofs.lemmas.List.{length-append}
-use Rattle.std.proofs.lemmas.Bool.{cond-true, cases_Bool, both_ways, cond-false}
+use Rattle.std.proofs.lemmas.Bool.{cases_Bool, both_ways}
 use Rattle.fq_text.specs.declared.encoding.Encoding.{Encoding}
 use Rattle.fq_text.specs.Grammar.{Read, Front, End, Faulty, Found, front}
-use Rattle.fq_text.specs.Records.{Records, from_front, records}
+use Rattle.fq_text.specs.Records.{records}
 use Rattle.fq_text.specs.Devices.{FeedState}
 use Rattle.fq_text.specs.Sources.{Sourced, KeepsCount, rest_in, IsTail, GivesRecord, held, LacksRecord, FaultIs, if_read, if_endless as endless_text, StopsText, EndsText}
 use Rattle.fq_pair.specs.Walks.{SideState, side_state, Draws, Uses}
@@ -24,12 +24,11 @@ use Rattle.fq_text.proofs.ResultLemmas.{err_mapped}
 use Rattle.fq_pair.specs.declared.fault.InputFault.TheVariants.{Text, NamesDiffer, MateMissing}
 use Rattle.fq_pair.specs.declared.side.Side.TheVariants.{Reverse}
 use Rattle.fq_pair.proofs.SourceLaws.{of_current, of_pair, of_titles}
-use Rattle.fq_pair.proofs.PairLaws.{records_of, records_of-front}
+use Rattle.fq_pair.proofs.PairLaws.{records_of}
 use Rattle.fq_pair.proofs.SideLemmas.{draws_then, uses_then, more_lines, lines_before, lines_left, lines_behind}
 use Rattle.fq_pair.proofs.InterleavedLaws.{interleaved_left_met, interleaved_pairs_of-stopped, interleaved_pairs_of-ended, interleaved_left_stopped}
 use Rattle.fq_pair.proofs.FrontLemmas.{front_more}
 use Rattle.fq_pair.proofs.TakenLemmas.{front_fewer, one_record}
-use Rattle.fq_text.specs.declared.fault.TextFault.TheVariants as text
 use Rattle.fq_pair.proofs.interleaved_source.advance_mates.Goals as goal
 
 -- How many records some lines hold.
