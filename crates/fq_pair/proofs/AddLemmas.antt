@@ -1,11 +1,12 @@
 -- The texts of one pair after others.
-use Rattle.std.proofs.Common.{arith, ◌≡◌, ℕ, ◌&&◌, Bool, not, if◌then◌else◌, Option, Some, List, [], ◌∷◌, ◌++◌, length, flat_map, ap₂}
+use Rattle.std.proofs.Common.{arith, subst, ◌≤◌, ◌≡◌, ℕ, ◌&&◌, Bool, not, if◌then◌else◌, Option, Some, List, [], ◌∷◌, ◌++◌, length, flat_map, ap₂}
 use Rattle.std.proofs.lemmas.Grind.{common_steps}
 use Rattle.fq_trim.specs.declared.step.Step.{Step}
 use Rattle.fq_trim.specs.declared.trimming.Kept.{Kept}
 use Rattle.fq_trim.specs.Keeping.{recodes}
-use Rattle.fq_text.specs.Grammar.{Read}
-use Rattle.fq_trim.specs.KeptPlaces.{kept_places, is_empty, places_of}
+use Rattle.fq_text.specs.Grammar.{Read, IsLawful}
+use Rattle.fq_trim.specs.KeptPlaces.{kept_places, is_empty, places_of, IsWithin}
+use Rattle.fq_trim.proofs.KeptLemmas.{kept_within_read}
 use Rattle.fq_pair.specs.declared.side.Side.{Side}
 use Rattle.fq_pair.specs.declared.side.Side.TheVariants.{Forward, Reverse}
 use Rattle.fq_pair.specs.declared.counts.Counts.{Counts}
@@ -17,6 +18,12 @@ pub same_outputs : (s t : Outputs) → s.forward_paired ≡ t.forward_paired →
     s.forward_unpaired ≡ t.forward_unpaired → s.reverse_paired ≡ t.reverse_paired
     → s.reverse_unpaired ≡ t.reverse_unpaired → s.log ≡ t.log → s.counts ≡ t.counts → s ≡ t
 same_outputs s t a b c d e f = grind (arith, common_steps)
+
+-- what is kept of a read lies within it
+pub kept_within : (steps : List Step) (read : Read) (o : Option Kept) (k : Kept) →
+    IsLawful read → kept_places steps read ≡ places_of o → o ≡ Some k → k.stop ≤ length read.seq
+kept_within steps read o k lawful kept is =
+    subst (IsWithin (length read.seq)) is (kept_within_read steps read o lawful.same_len kept)
 
 -- a text after a record was appended
 pub text_with : (old room new : List ℕ) (recode : Bool) (steps : List Step) (o : Option Kept)

@@ -1,5 +1,4 @@
-use Rattle.std.proofs.Common.{length, take, true, false, ◌+◌, add-zero, append-nil, refl, ap, sym, subst, ◌∙◌}
-use Rattle.fq_trim.specs.KeptPlaces.{IsWithin}
+use Rattle.std.proofs.Common.{arith, length, take, true, false, ◌+◌, add-zero, append-nil, refl, ap, sym, ◌∙◌}
 use Rattle.fq_trim.proofs.KeptLemmas.{kept_survives, dropped_is_gone, kept_within_read}
 use Rattle.fq_pair.specs.declared.counts.Counts.{Counts}
 use Rattle.fq_pair.specs.declared.name.NameLengths.{NameLengths}
@@ -10,75 +9,66 @@ use Rattle.fq_pair.specs.Outputs.{Outputs, joined}
 use Rattle.fq_pair.proofs.NameLemmas.{named}
 use Rattle.fq_pair.proofs.texts.Texts.add_kept.Goals as goal
 use Rattle.fq_pair.proofs.texts.Texts.add_kept.Goals.{in-Some-Some+in_ok-make_room-in-Some-Some+in_ok-make_room-in-Some-Some-2, in-Some-None+in_ok-make_room-in-Some-None, in-None-Some+in_ok-make_room-in-None-Some, in-None-None}
-use Rattle.fq_pair.proofs.AddLemmas.{same_outputs, same_counts, text_with, log_with, with_lines, lines_added, texts_if, pair_added}
+use Rattle.fq_pair.proofs.AddLemmas.{kept_within, same_outputs, same_counts, text_with, log_with, with_lines, lines_added, texts_if, pair_added}
 
 abbrev one_more : Counts → Counts
 one_more n = record n { pairs = n.pairs + 1 }
 
 -- what is kept of a mate lies within it
 pub make_room-requires : goal.make_room-requires
-make_room-requires c = subst (IsWithin (length c.args.pair.forward.seq)) c.in-Some-Some.is-0
-    (kept_within_read c.args.steps.now c.args.pair.forward c.args.forward
-    c.title-forward_title.ensures.lawful.same_len c.requires.forward)
+make_room-requires c =
+    kept_within c.args.steps.now _ _ _ c.title-forward_title.ensures.lawful c.requires.forward
+    c.in-Some-Some.is-0
 
 -- if both survive, what is kept of the reverse mate lies within it when room is made
 pub make_room-requires-in-Some-Some : goal.make_room-requires-in-Some-Some
-make_room-requires-in-Some-Some c = subst (IsWithin (length c.args.pair.reverse.seq))
-    c.in-Some-Some.is-1 (kept_within_read c.args.steps.now c.args.pair.reverse c.args.reverse
-    c.title-reverse_title.ensures.lawful.same_len c.requires.reverse)
+make_room-requires-in-Some-Some c =
+    kept_within c.args.steps.now _ _ _ c.title-reverse_title.ensures.lawful c.requires.reverse
+    c.in-Some-Some.is-1
 
 -- if both survive, what is kept of the forward mate lies within it when its record is put
 pub put_kept-requires-clause-within : goal.put_kept-requires-clause-within
-put_kept-requires-clause-within c = subst (IsWithin (length c.args.pair.forward.seq))
-    c.in-Some-Some.is-0 (kept_within_read c.args.steps.now c.args.pair.forward c.args.forward
-    c.title-forward_title.ensures.lawful.same_len c.requires.forward)
+put_kept-requires-clause-within c =
+    kept_within c.args.steps.now _ _ _ c.title-forward_title.ensures.lawful c.requires.forward
+    c.in-Some-Some.is-0
 
 -- if both survive, what is kept of the reverse mate lies within it when its record is put
 pub put_kept-requires-in-Some-Some-clause-within : goal.put_kept-requires-in-Some-Some-clause-within
 put_kept-requires-in-Some-Some-clause-within c =
-    subst (IsWithin (length c.args.pair.reverse.seq)) c.in-Some-Some.is-1
-    (kept_within_read c.args.steps.now c.args.pair.reverse c.args.reverse
-    c.title-reverse_title.ensures.lawful.same_len c.requires.reverse)
+    kept_within c.args.steps.now _ _ _ c.title-reverse_title.ensures.lawful c.requires.reverse
+    c.in-Some-Some.is-1
 
 -- what is kept of a forward mate alone lies within it when room is made
 pub make_room-requires-in-Some-None : goal.make_room-requires-in-Some-None
-make_room-requires-in-Some-None c = subst (IsWithin (length c.args.pair.forward.seq))
-    c.in-Some-None.is-0 (kept_within_read c.args.steps.now c.args.pair.forward c.args.forward
-    c.title-forward_title.ensures.lawful.same_len c.requires.forward)
+make_room-requires-in-Some-None c =
+    kept_within c.args.steps.now _ _ _ c.title-forward_title.ensures.lawful c.requires.forward
+    c.in-Some-None.is-0
 
 -- what is kept of a forward mate alone lies within it when its record is put
 pub put_kept-requires-in-Some-None-clause-within : goal.put_kept-requires-in-Some-None-clause-within
 put_kept-requires-in-Some-None-clause-within c =
-    subst (IsWithin (length c.args.pair.forward.seq)) c.in-Some-None.is-0
-    (kept_within_read c.args.steps.now c.args.pair.forward c.args.forward
-    c.title-forward_title.ensures.lawful.same_len c.requires.forward)
+    kept_within c.args.steps.now _ _ _ c.title-forward_title.ensures.lawful c.requires.forward
+    c.in-Some-None.is-0
 
 -- what is kept of a reverse mate alone lies within it when room is made
 pub make_room-requires-in-None-Some : goal.make_room-requires-in-None-Some
-make_room-requires-in-None-Some c = subst (IsWithin (length c.args.pair.reverse.seq))
-    c.in-None-Some.is-1 (kept_within_read c.args.steps.now c.args.pair.reverse c.args.reverse
-    c.title-reverse_title.ensures.lawful.same_len c.requires.reverse)
+make_room-requires-in-None-Some c =
+    kept_within c.args.steps.now _ _ _ c.title-reverse_title.ensures.lawful c.requires.reverse
+    c.in-None-Some.is-1
 
 -- what is kept of a reverse mate alone lies within it when its record is put
 pub put_kept-requires-in-None-Some-clause-within : goal.put_kept-requires-in-None-Some-clause-within
 put_kept-requires-in-None-Some-clause-within c =
-    subst (IsWithin (length c.args.pair.reverse.seq)) c.in-None-Some.is-1
-    (kept_within_read c.args.steps.now c.args.pair.reverse c.args.reverse
-    c.title-reverse_title.ensures.lawful.same_len c.requires.reverse)
+    kept_within c.args.steps.now _ _ _ c.title-reverse_title.ensures.lawful c.requires.reverse
+    c.in-None-Some.is-1
 
 -- what is kept of the forward mate lies within the bases that its log line counts
 pub put_line-requires-clause-within : goal.put_line-requires-clause-within
-put_line-requires-clause-within c = subst (λ n. IsWithin n c.args.forward)
-    (sym (ap length c.seq-forward_seq.ensures))
-    (kept_within_read c.args.steps.now c.args.pair.forward c.args.forward
-    c.title-forward_title.ensures.lawful.same_len c.requires.forward)
+put_line-requires-clause-within c = grind (arith, kept_within_read)
 
 -- what is kept of the reverse mate lies within the bases that its log line counts
 pub put_line-requires-2-clause-within : goal.put_line-requires-2-clause-within
-put_line-requires-2-clause-within c = subst (λ n. IsWithin n c.args.reverse)
-    (sym (ap length c.seq-reverse_seq.ensures))
-    (kept_within_read c.args.steps.now c.args.pair.reverse c.args.reverse
-    c.title-reverse_title.ensures.lawful.same_len c.requires.reverse)
+put_line-requires-2-clause-within c = grind (arith, kept_within_read)
 
 -- whoever survives, the texts, the log and the counts grow by those of the pair
 pub returns-clause-ok : goal.returns-clause-ok
