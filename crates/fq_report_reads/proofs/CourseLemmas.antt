@@ -33,6 +33,15 @@ kept_course number start n p course = record {
   dropped = course.dropped;
 }
 
+-- a course that goes on after so many bases were removed and these lists shortened the read
+abbrev pub goes_on : ℕ → List ℕ → Course → Course
+goes_on front shortened course = record {
+  left = course.left;
+  front = front + course.front;
+  shortened = shortened ++ course.shortened;
+  dropped = course.dropped;
+}
+
 after_places : (number start n : ℕ) (p : Part) (course : Course) → 0 < n →
     after number (places start n) p course ≡ kept_course number start n p course
 after_places number start zero p course some = absurd (omega arith)
