@@ -45,7 +45,9 @@ pub two_given : {F G : Type 0} (state : F → FeedState) (state' : G →
 two_given state state' a b a' b' check given before now f r encoding kept first second together =
     record {
       pair_is = λ told told'. grind (arith, common_steps);
-      left = λ told told'. pairs_left_met state state' (asked a a' check given before) (asked b b' check (given + 1) now) (mates_in f r) kept refl refl (grind (arith, common_steps));
+      left = λ told told'. pairs_left_met state state' (asked a a' check given before)
+          (asked b b' check (given + 1) now) (mates_in f r) kept refl refl
+          (grind (arith, common_steps));
       forward = first;
       reverse = second;
       names = together;

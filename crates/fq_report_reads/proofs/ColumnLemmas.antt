@@ -117,7 +117,8 @@ pub counted_next : (start now new : Columns) (at i row score : ℕ) (e : Encodin
     list_all (is_scored e) qual ≡ true → new ≡ columns_plus now
     (one_in row (get_or seq i 0) score) →
     new ≡ columns_plus start (columns_from at e (take (i + 1) seq) (take (i + 1) qual))
-counted_next start now new at i row score e seq qual so_far row_is score_is within same few scored here =
+counted_next start now new at i row score e seq qual so_far row_is score_is within same few scored
+    here =
     let long : i < length qual = omega arith in
     more_counted start now new at i 1 e seq qual so_far same few scored (omega arith) (here
     ∙ ap (λ x. columns_plus now (one_in row (get_or seq i 0) x)) score_is

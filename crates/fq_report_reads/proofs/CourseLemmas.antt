@@ -208,7 +208,8 @@ module _ (steps : List Step) (read : Read) (number start stop : ℕ)
       let seq = part_again read.seq start m k.start count (omega arith) in
       let qual = part_again read.qual start m k.start count (omega arith) in
       let at_number = alone_at steps number in_steps in
-      let next = next_kept number (alone steps) read.encoding at_hand.seq at_hand.qual k (omega arith)
+      let next = next_kept number (alone steps) read.encoding at_hand.seq at_hand.qual k
+      (omega arith)
       (ap (λ (s : List Step). kept s (scores read.encoding at_hand.qual)) at_number ∙ is) fits
       (omega arith) in cc
 

@@ -201,7 +201,8 @@ pub row_behind : (f : ℕ → ℕ) → f 0 ≡ 0 → (rows len most at k : ℕ) 
     rows_plus xs (replicate at 0 ++ map f (ys ++ replicate k 0))
     ≡ rows_plus xs (replicate at 0 ++ map f ys)
 row_behind f none rows len most at k xs ys few bound room =
-    grind (arith, common_steps, map-append, zeros_mapped, append_assoc, plus_zeros_behind, length-shifted, length-map)
+    let cut = map-append f ys (replicate k 0) in let long = length-map ys f in
+    grind (arith, common_steps, zeros_mapped, append_assoc, plus_zeros_behind, length-shifted)
 
 -- if each number is at most this, so are all of a list
 pub mapped_at_most : (f : ℕ → ℕ) (most : ℕ) → ((x : ℕ) → f x ≤ most) → (xs : List ℕ) →

@@ -74,7 +74,8 @@ module _ (start now : Columns) (at from : ℕ) (e : Encoding) (seq qual : List �
       let s = length-chunk from 32 seq room in
       let q = length-chunk from 32 qual (omega arith) in
       more_counted start now new at from 32 e seq qual so_far same (omega arith) scored room (here
-      ∙ ap (columns_plus now) (lanes_are_columns (at + from) e (chunk from 32 seq) (chunk from 32 qual)
+      ∙ ap (columns_plus now) (lanes_are_columns (at + from) e (chunk from 32 seq)
+      (chunk from 32 qual)
       (all_taken (is_scored e) (drop from qual) 32 (all_dropped (is_scored e) qual from scored))
       (omega arith) (omega arith)))
 
@@ -88,8 +89,8 @@ module _ (start now : Columns) (at from : ℕ) (e : Encoding) (seq qual : List �
       let q = take_all n (drop from qual) (omega (arith, length-drop from qual)) in
       more_counted start now new at from n e seq qual so_far same (omega arith) scored (omega arith)
       (here ∙ ap₂ (λ x y. columns_plus now (columns_from (at + from) e x y)) (sym s) (sym q))
-      ∙ ap₂ (λ x y. columns_plus start (columns_from at e x y)) (take_all (from + n) seq (omega arith))
-      (take_all (from + n) qual (omega arith))
+      ∙ ap₂ (λ x y. columns_plus start (columns_from at e x y))
+      (take_all (from + n) seq (omega arith)) (take_all (from + n) qual (omega arith))
 
   -- if no bases are left, all are counted
   pub all_counted : length seq ≤ from → now ≡ columns_plus start (columns_from at e seq qual)

@@ -145,7 +145,8 @@ pub placed_joined : (at k : ℕ) (us vs : List ℕ) → k ≡ at + length us →
     sum us + sum vs ≤ 18446744073709551615 →
     rows_plus (placed at us) (placed k vs) ≡ placed at (us ++ vs)
 placed_joined at k us vs behind small =
-    grind (arith, common_steps, length-append, length-replicate, sum-append, sum-zeros, joined, append_assoc)
+    let none = sum-zeros at in
+    grind (arith, common_steps, length-append, length-replicate, sum-append, joined, append_assoc)
 
 cut_none : (most at : ℕ) → cut_at most (replicate at 0 ++ []) ≡ replicate (min at (suc most)) 0
 unfolding cut_at

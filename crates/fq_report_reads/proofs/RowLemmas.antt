@@ -47,7 +47,8 @@ pub grown_next : (xs ys zs : List ℕ) (i x w : ℕ) → i < length ys →
     w ≡ min (x + get_or ys i 0) 18446744073709551615 →
     set zs i w ≡ rows_plus (rows_plus xs (replicate (length ys) 0)) (take (i + 1) ys)
 grown_next xs ys zs i x w below so_far read sum =
-    grind (arith, common_steps, length-rows_plus, length-replicate, get_or_read, grown_long, plus_more, add-one)
+    let long = grown_long xs ys zs i so_far below in
+    grind (arith, common_steps, length-rows_plus, length-replicate, get_or_read, plus_more, add-one)
 
 -- once all rows are added to a list that was grown so, it is both lists together
 pub grown_plus : (xs ys : List ℕ) → ((k : ℕ) → get_or ys k 0 ≤ 18446744073709551615) →

@@ -58,7 +58,8 @@ module _ {F : Type 0} (state : F → FeedState) (a b c : Sourced F) (p : KeepsCo
   -- what every call keeps is also kept by two calls, one after the other
   keeps_then : KeepsCount state a c
   keeps_then =
-      let d = draws_then (side a) (side b) (side c) 0 (drawn_in a b p) (drawn_in b c q) in search rules
+      let d = draws_then (side a) (side b) (side c) 0 (drawn_in a b p) (drawn_in b c q) in
+      search rules
 
   -- the rest of a rest of a text
   tail_then : IsTail (rest_in state a) (rest_in state b) b.ended →
@@ -179,7 +180,8 @@ module _ {F : Type 0} (state : F → FeedState) (a b c : Sourced F) (p : KeepsCo
           grind (
             arith,
             before,
-            lines_behind (side a) (side b) (side c) 0 (drawn_in a b p) (drawn_in b c q) told (used_in a b t) going,
+            lines_behind (side a) (side b) (side c) 0 (drawn_in a b p) (drawn_in b c q) told
+                (used_in a b t) going,
             front_fewer,
             one_record,
             no_records,
@@ -273,7 +275,8 @@ module _ {F : Type 0} (state : F → FeedState) (a b c : Sourced F) (p : KeepsCo
       (let why = MateMissing Reverse (given + 1) in
       StopsPairs state (asked a kept check given before) (stopped c f check given (Err why)) why)
   mate_missing ends =
-      grind (arith, common_steps, pair_stops (MateMissing Reverse (given + 1)), front_behind, add-one)
+      pair_stops (MateMissing Reverse (given + 1)) refl tt tt tt tt
+      (λ told. grind (arith, common_steps, front_behind))
 
   -- two records that were given make no pair if their names differ
   names_differ : (r : Read) (why : InputFault) → why ≡ NamesDiffer (given + 1) →

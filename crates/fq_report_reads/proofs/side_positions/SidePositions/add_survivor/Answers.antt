@@ -20,7 +20,8 @@ returns-then-stop-seq c =
     (take (length qual - k.stop) (drop k.stop qual)) in
     let both = cut_columns read k e seq qual c.encoding-encoding.ensures c.seq-seq.ensures
     c.qual-qual.ensures c.requires lawful.same_len lawful.seq_fits lawful.scores start in
-    let placed = in_place x rest (columns_of (whole read)) c.args.mate_survives c.args.self.now both in
+    let placed = in_place x rest (columns_of (whole read)) c.args.mate_survives c.args.self.now
+    both in
     let left = left_counted read k c.args.mate_survives c.args.self.now e seq qual
     c.encoding-encoding.ensures c.seq-seq.ensures c.qual-qual.ensures c.requires lawful.same_len in
     grind (arith, c.add_in_place.ensures, c.add_rest-then-stop-seq.ensures)
