@@ -93,7 +93,7 @@ impl SideTally {
     }
 
     // Counts one more read that keeps bases.
-    #[tactic(auto, using(crate::proofs::SideLemmas::few_bases, crate::proofs::SideLemmas::kept_counts, crate::proofs::SideLemmas::survivor))]
+    #[tactic(auto, using(std::proofs::lemmas::Grind::common_steps, crate::proofs::SideLemmas::few_bases))]
     fn add_survivor(&mut self, read: &ReadView<'_>, kept: Kept, mate_survives: bool)
         requires { kept.stop ≤ length read.now.seq }
         ensures { self.new ≡ with_left read.now
