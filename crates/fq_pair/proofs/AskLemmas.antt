@@ -1,17 +1,15 @@
 -- What a call of a source of pairs returns, in terms of the source's state.
-use Rattle.std.proofs.Common.{arith, ◌≡◌, ◌+◌, Bool, true, false, [], ◌∷◌, Option, None, Result, Ok, Err, IfErr, refl}
+use Rattle.std.proofs.Common.{arith, ◌≡◌, ◌+◌, Bool, true, false, Option, None, Result, Ok, Err, IfErr}
 use Rattle.std.specs.Option.{IfSome, IsSomeAnd}
 use Rattle.std.proofs.lemmas.Grind.{common_steps}
 use Rattle.fq_text.specs.Devices.{FeedState}
-use Rattle.fq_text.specs.Lines.{lines}
-use Rattle.fq_text.specs.Sources.{rest_in}
 use Rattle.fq_pair.specs.declared.side.Side.TheVariants.{Forward, Reverse}
 use Rattle.fq_pair.specs.declared.fault.InputFault.{InputFault}
 use Rattle.fq_pair.specs.PairSources.{PairSourced, KeepsCounts, GivesPair, EndsPairs, StopsPairs, failed_on}
 use Rattle.fq_pair.specs.Mates.{Mates}
 use Rattle.fq_pair.specs.InterleavedSources.{InterleavedSourced}
 use Rattle.fq_pair.specs.InterleavedSources as interleaved
-use Rattle.fq_pair.specs.Walks.{source_state, interleaved_state, KeepsSettings, side_state, Draws, Walks, Advances}
+use Rattle.fq_pair.specs.Walks.{source_state, interleaved_state, KeepsSettings, Advances}
 use Rattle.fq_pair.proofs.SideLemmas.{drawn, used}
 
 -- what holds of a value that is there
@@ -41,25 +39,7 @@ module _ {F G : Type 0} (state : F → FeedState) (state' : G → FeedState) whe
       KeepsCounts state state' old new →
       Advances (source_state state state' old) (source_state state state' new) r
   advances old new (Ok true) found end fault ff fr k =
-      some_and new.current (GivesPair state state' old new)
-      (λ m. Walks (source_state state state' old) (source_state state state' new) (m ∷ []))
-      (λ m given. let f = given.forward in let r = given.reverse in record {
-        same = same_settings old new k;
-        given = given.given;
-        forward_records = f.given;
-        reverse_records = r.given;
-        last = given.last;
-        forward = drawn state old.forward new.forward 0 k.forward ff;
-        reverse = drawn state' old.reverse new.reverse 0 k.reverse fr;
-        forward_used = λ told. used state old.forward new.forward (f.tail told);
-        reverse_used = λ told. used state' old.reverse new.reverse (r.tail told);
-        leads = λ tf tr. (
-          lines (rest_in state new.forward),
-          lines (rest_in state' new.reverse),
-          given.pair_is tf tr,
-          (refl, refl),
-        );
-      }) (found refl)
+      grind (arith, some_and, same_settings, drawn, used)
   advances old new (Ok false) found end fault ff fr k = grind (arith, common_steps)
   advances old new (Err why) found end fault ff fr k = grind (arith, common_steps)
 
@@ -79,22 +59,6 @@ module _ {F : Type 0} (state : F → FeedState) where
       interleaved.KeepsCounts state old new →
       Advances (interleaved_state state old) (interleaved_state state new) r
   advances_interleaved old new (Ok true) found end fault failed k =
-      let at : Draws (side_state state old.source) (side_state state new.source) 0 =
-      drawn state old.source new.source 0 k.source failed in
-      let ls = lines (rest_in state new.source) in
-      some_and new.current (interleaved.GivesPair state old new)
-      (λ m. Walks (interleaved_state state old) (interleaved_state state new) (m ∷ []))
-      (λ m given. let two = given.records in record {
-        same = same_interleaved old new k;
-        given = given.given;
-        forward_records = two.given;
-        reverse_records = two.given;
-        last = given.last;
-        forward = at;
-        reverse = at;
-        forward_used = λ told. used state old.source new.source (two.tail told);
-        reverse_used = λ told. used state old.source new.source (two.tail told);
-        leads = λ told same. (ls, ls, given.pair_is told, (refl, refl));
-      }) (found refl)
+      grind (arith, common_steps, same_interleaved, drawn, used)
   advances_interleaved old new (Ok false) found end fault failed k = grind (arith, common_steps)
   advances_interleaved old new (Err why) found end fault failed k = grind (arith, common_steps)

@@ -37,14 +37,8 @@ none_up_to k text = ap (λ (n : ℕ). none_at n text) (add-zero k)
 one_up_to : (m : Mates) (ms : List Mates) (k : ℕ) (f r : Read) (text : Records) →
     up_to (m ∷ ms) k (with_first f (with_first r text)) ≡ with_pair m (up_to ms (suc k) text)
 one_up_to m ms k f r text =
-    let number : k + suc (length ms) ≡ suc k + length ms = omega arith in
     let records : 2 * suc (length ms) ≡ suc (suc (2 * length ms)) = omega arith in
-    let P : ℕ → ℕ → Pairs = λ n b. record {
-      mates = m ∷ ms;
-      fault =
-          interleaved_fault_at (suc n) (behind b (with_first f (with_first r text)));
-    } in
-    ap (λ (n : ℕ). P n (2 * suc (length ms))) number ∙ ap (P (suc k + length ms)) records
+    grind (arith, common_steps)
 
 module _ (check : Bool) (k : ℕ) (T : List (List ℕ) → Records) where
   abbrev others : List (List ℕ) → List (List ℕ) → Pairs
@@ -119,12 +113,8 @@ module _ {F : Type 0} (state : F → FeedState) (old : InterleavedSourced F) whe
       pairs_left state old ≡ with_pair m (pairs_left state new)
   interleaved_left_met new m encoding check_names given front =
       let ls = lines (rest_in state new.source) in
-      let P : Bool → Encoding → ℕ → Pairs = λ check e n. with_pair m
-      (interleaved_pairs_of check n (records_of e ls)) in
-      interleaved_pairs_of-met old.check_names old.source.encoding old.given m text ls ls front
-      ∙ ap (λ e. P old.check_names e (suc old.given)) (sym encoding)
-      ∙ ap (λ check. P check new.source.encoding (suc old.given)) (sym check_names)
-      ∙ ap (P new.check_names new.source.encoding) (sym (given ∙ add-one old.given))
+      rw (encoding, check_names, given, add-one) (interleaved_pairs_of-met old.check_names
+      old.source.encoding old.given m text ls ls front)
 
   -- if a fault comes first, no pair is left, and the pairs end with it
   pub interleaved_left_stopped : (why : InputFault) → front_of state old ≡ Stopped why →

@@ -1,20 +1,18 @@
 -- The pairs that are left to a source of two texts, by what comes first in them.
-use Rattle.std.proofs.Common.{arith, ◌≡◌, ℕ, suc, ◌+◌, Bool, not, ◌||◌, true, IsTrue, Option, Some, MatchOption, Err, List, refl, ap, sym, subst, rules, ◌∙◌, add-one}
+use Rattle.std.proofs.Common.{arith, ◌≡◌, ℕ, ◌+◌, Bool, not, ◌||◌, true, Option, Some, MatchOption, Err, List, refl, subst, rules, add-one}
 use Rattle.std.specs.Option.{IsSome, IsSomeAnd}
-use Rattle.std.proofs.lemmas.Bool.{cond-true}
 use Rattle.std.proofs.lemmas.Grind.{common_steps}
 use Rattle.fq_text.specs.Devices.{FeedState}
 use Rattle.fq_text.specs.declared.fault.TextFault.{TextFault}
-use Rattle.fq_text.specs.declared.encoding.Encoding.{Encoding}
 use Rattle.fq_text.specs.Lines.{lines}
-use Rattle.fq_text.specs.Grammar.{Read, Front, Found, front}
+use Rattle.fq_text.specs.Grammar.{Read, front}
 use Rattle.fq_text.specs.Sources.{Sourced, rest_in, KeepsCount, GivesRecord, EndsText, StopsText}
-use Rattle.fq_pair.specs.declared.fault.InputFault.TheVariants.{Text, NamesDiffer}
+use Rattle.fq_pair.specs.declared.fault.InputFault.TheVariants.{Text}
 use Rattle.fq_pair.specs.declared.side.Side.TheVariants.{Reverse}
 use Rattle.fq_pair.specs.Mates.{Mates, mates_in, names_match}
-use Rattle.fq_pair.specs.Pairing.{Pairs, Stopped, Met, belong, meeting, pairs_of, with_pair}
+use Rattle.fq_pair.specs.Pairing.{Met, belong, with_pair}
 use Rattle.fq_pair.specs.PairSources.{PairSourced, front_of, pairs_left, GivesPair, pair_of, asked, stopped, IsReady, StopsPairs}
-use Rattle.fq_pair.proofs.PairLaws.{records_of, pairs_of-met}
+use Rattle.fq_pair.proofs.PairLaws.{pairs_of-met}
 
 module _ {F G : Type 0} (state : F → FeedState) (state' : G → FeedState)
     (old : PairSourced F G) where
@@ -34,12 +32,8 @@ module _ {F G : Type 0} (state : F → FeedState) (state' : G → FeedState)
   pairs_left_met new m encoding check_names given front =
       let fs = lines (rest_in state new.forward) in
       let rs = lines (rest_in state' new.reverse) in
-      let P : Bool → Encoding → ℕ → Pairs = λ check e n. with_pair m
-      (pairs_of check n (records_of e fs) (records_of e rs)) in
-      pairs_of-met old.check_names old.forward.encoding old.given forward reverse m fs rs front
-      ∙ ap (λ e. P old.check_names e (suc old.given)) (sym encoding)
-      ∙ ap (λ check. P check new.forward.encoding (suc old.given)) (sym check_names)
-      ∙ ap (P new.check_names new.forward.encoding) (sym (given ∙ add-one old.given))
+      rw (encoding, check_names, given, add-one) (pairs_of-met old.check_names old.forward.encoding
+      old.given forward reverse m fs rs front)
 
 -- two records that were given make a pair if their names allow it
 pub two_given : {F G : Type 0} (state : F → FeedState) (state' : G →
@@ -49,23 +43,11 @@ pub two_given : {F G : Type 0} (state : F → FeedState) (state' : G →
     belong check (mates_in f r) ≡ true → GivesPair state state' (asked a a' check given before)
     (asked b b' check (given + 1) now) (mates_in f r)
 two_given state state' a b a' b' check given before now f r encoding kept first second together =
-    let fs = lines (rest_in state b) in
-    let rs = lines (rest_in state' b') in
-    let n = suc given in
-    let pair_is : IsTrue (state a.feed).tells → IsTrue (state' a'.feed).tells →
-    front_of state state' (asked a a' check given before) ≡ Met (mates_in f r) fs rs =
-    λ told told'.
-    ap (λ (x : Front). meeting check n x (front a.encoding (lines (rest_in state' a'))))
-    (first.record_is told)
-    ∙ ap (λ (e : Encoding). meeting check n (Found f fs) (front e (lines (rest_in state' a'))))
-    encoding
-    ∙ ap (meeting check n (Found f fs)) (second.record_is told')
-    ∙ cond-true (belong check (mates_in f r)) (Met (mates_in f r) fs rs) (Stopped (NamesDiffer n))
-    together in
     record {
-      pair_is = pair_is;
+      pair_is = λ told told'. grind (arith, common_steps);
       left = λ told told'. pairs_left_met state state' (asked a a' check given before)
-          (asked b b' check (given + 1) now) (mates_in f r) kept refl refl (pair_is told told');
+          (asked b b' check (given + 1) now) (mates_in f r) kept refl refl
+          (grind (arith, common_steps));
       forward = first;
       reverse = second;
       names = together;

@@ -1,6 +1,8 @@
 -- What is left of a read: the numbers of its log line, and its record.
-use Rattle.std.proofs.Common.{◌≡◌, ℕ, ◌+◌, ◌-◌, ◌<◌, ◌≤◌, Bool, Some, List, [], ◌∷◌, length, take, drop, arith}
+use Rattle.std.proofs.Common.{◌≡◌, ℕ, ◌+◌, ◌-◌, ◌^◌, ◌<◌, ◌≤◌, Bool, Some, List, [], ◌∷◌, length, take, drop, arith}
 use Rattle.std.specs.Bool.{then_some}
+use Rattle.std.specs.Fmt.{decimal}
+use Rattle.std.proofs.lemmas.Fmt.{length-decimal-le}
 use Rattle.std.proofs.lemmas.Grind.{common_steps}
 use Rattle.fq_trim.specs.declared.trimming.Kept.{Kept}
 use Rattle.fq_trim.specs.Keeping.{places}
@@ -9,6 +11,10 @@ use Rattle.fq_text.specs.Grammar.{Read, IsLawful}
 use Rattle.fq_text.specs.Written.{written, written_quality, CanRecode}
 use Rattle.fq_trim.specs.KeptPlaces.{bytes_at, places_of, IsWithin}
 use Rattle.fq_pair.specs.Outputs.{log_numbers, record_at}
+
+-- a number of 64 bits has at most 20 digits
+pub short : (n : ℕ) → n < 2 ^ 64 → length (decimal n) ≤ 20
+short n small = length-decimal-le 20 n (omega arith) (omega arith) small
 
 -- the numbers of a log line of n bases of which m, one or more, are kept from start on
 pub log_numbers-places : (n start m : ℕ) → 0 < m →

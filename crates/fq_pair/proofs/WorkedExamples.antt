@@ -1,15 +1,17 @@
 -- Worked inputs: names, pairs, texts and the summary.
-use Rattle.std.proofs.Common.{◌≡◌, ℕ, true, false, Some, None, List, [], ◌∷◌, ◌++◌, codes, refl}
+use Rattle.std.proofs.Common.{◌≡◌, ℕ, true, false, Option, Some, None, List, [], ◌∷◌, ◌++◌, codes, refl}
 use Rattle.std.specs.Fmt.{digits}
 use Rattle.fq_text.specs.declared.encoding.Encoding.TheVariants.{Sanger}
+use Rattle.fq_text.specs.Grammar.{Read}
 use Rattle.fq_text.specs.declared.fault.TextFault.TheVariants.{NoTitle, PlusDiffers, NoPlus, BadSequence}
 use Rattle.fq_trim.specs.declared.step.Step.{Step}
 use Rattle.fq_trim.specs.declared.step.Step.TheVariants.{Leading, Trailing, MinLen, SlidingWindow}
 use Rattle.fq_pair.specs.declared.counts.Counts.{Counts}
 use Rattle.fq_pair.specs.declared.side.Side.TheVariants.{Forward, Reverse}
+use Rattle.fq_pair.specs.declared.fault.InputFault.{InputFault}
 use Rattle.fq_pair.specs.declared.fault.InputFault.TheVariants.{Text, MateMissing, NamesDiffer}
 use Rattle.fq_pair.specs.Mates.{Mates, mates_in, name_of, names_match}
-use Rattle.fq_pair.specs.Pairing.{pairs}
+use Rattle.fq_pair.specs.Pairing.{Pairs, pairs}
 use Rattle.fq_pair.specs.Interleaved.{interleaved_pairs}
 use Rattle.fq_pair.specs.Forms.{TwoTexts, InterleavedText, names_of_pair}
 use Rattle.fq_pair.specs.Outputs.{texts_of, counts_of}
@@ -43,44 +45,33 @@ forward = codes "@p1/1\nACGT\n+\n#!II\n@p2/1\nGGCC\n+\nIIII\n"
 abbrev reverse : List ℕ
 reverse = codes "@p1/2\nTTTT\n+\nIIII\n@p2/2\nAAAA\n+\n!!!\"\n"
 
+abbrev read : List ℕ → List ℕ → List ℕ → Read
+read title seq qual = record { encoding = Sanger; title = title; seq = seq; qual = qual }
+
+abbrev ends : List Mates → Option InputFault → Pairs
+ends mates fault = record { mates = mates; fault = fault }
+
+abbrev counts : ℕ → ℕ → ℕ → ℕ → ℕ → Counts
+counts pairs both forward_only reverse_only dropped = record {
+  pairs = pairs;
+  both = both;
+  forward_only = forward_only;
+  reverse_only = reverse_only;
+  dropped = dropped;
+}
+
 abbrev first : Mates
-first = mates_in (record {
-  encoding = Sanger;
-  title = codes "p1/1";
-  seq = codes "ACGT";
-  qual =
-      codes "#!II";
-}) (record {
-  encoding = Sanger;
-  title = codes "p1/2";
-  seq = codes "TTTT";
-  qual =
-      codes "IIII";
-})
+first = mates_in (read (codes "p1/1") (codes "ACGT") (codes "#!II"))
+    (read (codes "p1/2") (codes "TTTT") (codes "IIII"))
 
 abbrev second : Mates
-second = mates_in (record {
-  encoding = Sanger;
-  title = codes "p2/1";
-  seq = codes "GGCC";
-  qual =
-      codes "IIII";
-}) (record {
-  encoding = Sanger;
-  title = codes "p2/2";
-  seq = codes "AAAA";
-  qual =
-      codes "!!!\"";
-})
+second = mates_in (read (codes "p2/1") (codes "GGCC") (codes "IIII"))
+    (read (codes "p2/2") (codes "AAAA") (codes "!!!\""))
 
-two_pairs : pairs true Sanger 0 forward reverse ≡ record {
-  mates = first ∷ second ∷ [];
-  fault =
-      None;
-}
+two_pairs : pairs true Sanger 0 forward reverse ≡ ends (first ∷ second ∷ []) None
 two_pairs = refl
 
-two_empty_texts : pairs true Sanger 0 [] [] ≡ record { mates = []; fault = None }
+two_empty_texts : pairs true Sanger 0 [] [] ≡ ends [] None
 two_empty_texts = refl
 
 two_pairs_trimmed : texts_of (Leading 3 ∷ []) (first ∷ second ∷ []) ≡ record {
@@ -89,7 +80,7 @@ two_pairs_trimmed : texts_of (Leading 3 ∷ []) (first ∷ second ∷ []) ≡ re
   reverse_paired = codes "@p1/2\nTTTT\n+\nIIII\n";
   reverse_unpaired = [];
   log = codes "p1 2 2 4 0\np1 4 0 4 0\np2 4 0 4 0\np2 0 0 0 0\n";
-  counts = record { pairs = 2; both = 1; forward_only = 1; reverse_only = 0; dropped = 0 };
+  counts = counts 2 1 1 0 0;
 }
 unfolding digits
 two_pairs_trimmed = refl
@@ -117,22 +108,9 @@ missing_forward : (pairs true Sanger 0 (codes "@p1/1\nTTTT\n+\nIIII\n") reverse)
 missing_forward = refl
 
 other_names : pairs true Sanger 0 (codes "@a/1\nA\n+\nI\n@b/1\nA\n+\nI\n")
-    (codes "@a/2 x\nA\n+\nI\n@c/2\nA\n+\nI\n") ≡ record {
-      mates = mates_in (record {
-        encoding = Sanger;
-        title = codes "a/1";
-        seq = codes "A";
-        qual =
-            codes "I";
-      }) (record {
-        encoding = Sanger;
-        title = codes "a/2 x";
-        seq = codes "A";
-        qual =
-            codes "I";
-      }) ∷ [];
-      fault = Some (NamesDiffer 2);
-    }
+    (codes "@a/2 x\nA\n+\nI\n@c/2\nA\n+\nI\n")
+    ≡ ends (mates_in (read (codes "a/1") (codes "A") (codes "I"))
+    (read (codes "a/2 x") (codes "A") (codes "I")) ∷ []) (Some (NamesDiffer 2))
 other_names = refl
 
 names_unchecked : (pairs false Sanger 0 (codes "@a/1\nA\n+\nI\n@b/1\nA\n+\nI\n")
@@ -146,43 +124,31 @@ abbrev two_pairs_with : List ℕ → List ℕ
 two_pairs_with plus =
     codes "@p1/1\nACGT\n+\n#!II\n@p1/2\nTTTT\n+\nIIII\n@p2/1\nGGCC\n+\nIIII\n@p2/2\nAAAA\n" ++ (plus ++ codes "\n!!!\"\n")
 
-two_interleaved : interleaved_pairs true Sanger 0 (two_pairs_with (codes "+")) ≡ record {
-  mates =
-      first ∷ second ∷ [];
-  fault = None;
-}
+two_interleaved : interleaved_pairs true Sanger 0 (two_pairs_with (codes "+"))
+    ≡ ends (first ∷ second ∷ []) None
 two_interleaved = refl
 
 -- the fourth record has the fault
 fault_of_second_mate : interleaved_pairs true Sanger 0 (two_pairs_with (codes "+x"))
-    ≡ record { mates = first ∷ []; fault = Some (Text Reverse (PlusDiffers 4)) }
+    ≡ ends (first ∷ []) (Some (Text Reverse (PlusDiffers 4)))
 fault_of_second_mate = refl
 
 -- the third record has the fault
 fault_of_first_mate : interleaved_pairs true Sanger 0
-    (codes "@p1/1\nACGT\n+\n#!II\n@p1/2\nTTTT\n+\nIIII\np2/1\n") ≡ record {
-      mates =
-          first ∷ [];
-      fault = Some (Text Forward (NoTitle 3));
-    }
+    (codes "@p1/1\nACGT\n+\n#!II\n@p1/2\nTTTT\n+\nIIII\np2/1\n")
+    ≡ ends (first ∷ []) (Some (Text Forward (NoTitle 3)))
 fault_of_first_mate = refl
 
-empty_text : interleaved_pairs true Sanger 0 [] ≡ record { mates = []; fault = None }
+empty_text : interleaved_pairs true Sanger 0 [] ≡ ends [] None
 empty_text = refl
 
-one_record : interleaved_pairs true Sanger 0 (codes "@p1/1\nACGT\n+\n#!II\n") ≡ record {
-  mates =
-      [];
-  fault = Some (MateMissing Reverse 1);
-}
+one_record : interleaved_pairs true Sanger 0 (codes "@p1/1\nACGT\n+\n#!II\n")
+    ≡ ends [] (Some (MateMissing Reverse 1))
 one_record = refl
 
 three_records : interleaved_pairs true Sanger 0
-    (codes "@p1/1\nACGT\n+\n#!II\n@p1/2\nTTTT\n+\nIIII\n@p2/1\nGGCC\n+\nIIII\n") ≡ record {
-      mates =
-          first ∷ [];
-      fault = Some (MateMissing Reverse 2);
-    }
+    (codes "@p1/1\nACGT\n+\n#!II\n@p1/2\nTTTT\n+\nIIII\n@p2/1\nGGCC\n+\nIIII\n")
+    ≡ ends (first ∷ []) (Some (MateMissing Reverse 2))
 three_records = refl
 
 -- after five pairs come records 11 and 12, of pair 6
@@ -205,7 +171,7 @@ later_names = refl
 -- two mates whose names differ, and a text that goes on
 interleaved_names : interleaved_pairs true Sanger 0
     (codes "@p1/1\nACGT\n+\n#!II\n@p1/2\nTTTT\n+\nIIII\n@b/1\nA\n+\nI\n@c/2\nA\n+\nI\n@d/1\n")
-    ≡ record { mates = first ∷ []; fault = Some (NamesDiffer 2) }
+    ≡ ends (first ∷ []) (Some (NamesDiffer 2))
 interleaved_names = refl
 
 interleaved_names_unchecked : (interleaved_pairs false Sanger 0
@@ -224,21 +190,9 @@ no_second_names = refl
 
 -- Logs.
 
-cut_by_a_window : (texts_of (SlidingWindow 4 15 ∷ []) (mates_in
-    (record {
-      encoding = Sanger;
-      title = codes "r1";
-      seq = codes "ACGTACGT";
-      qual =
-          codes "????####";
-    })
-    (record {
-      encoding = Sanger;
-      title = codes "r2";
-      seq = codes "ACG";
-      qual =
-          codes "III";
-    }) ∷ [])).log
+cut_by_a_window : (texts_of (SlidingWindow 4 15 ∷ [])
+    (mates_in (read (codes "r1") (codes "ACGTACGT") (codes "????####"))
+    (read (codes "r2") (codes "ACG") (codes "III")) ∷ [])).log
     ≡ codes "r1 4 0 4 4\nr2 0 0 0 0\n"
 unfolding digits
 cut_by_a_window = refl
@@ -260,55 +214,29 @@ seven_pairs_trimmed : let left =
       reverse_unpaired = [];
       log = codes
           "n1 4 0 4 0\nn1 2 0 2 2\nn2 2 2 4 0\nn2 2 0 2 2\nn3 4 0 4 0\nn3 0 0 0 0\nn4 2 2 4 0\nn4 2 0 2 2\nn5 4 0 4 0\nn5 2 0 2 2\nn6 2 2 4 0\nn6 0 0 0 0\nn7 4 0 4 0\nn7 2 0 2 2\n";
-      counts = record { pairs = 7; both = 5; forward_only = 2; reverse_only = 0; dropped = 0 };
+      counts = counts 7 5 2 0 0;
     })
 unfolding digits
 seven_pairs_trimmed = (refl, refl)
 
--- the counts of the first five of these pairs
-abbrev five : Counts
-five = record { pairs = 5; both = 4; forward_only = 1; reverse_only = 0; dropped = 0 }
-
 six_and_five : let left =
     pairs true Sanger 0
     (codes "@n1/1\nACGT\n+\nIIII\n@n2/1\nACGT\n+\n##II\n@n3/1\nACGT\n+\nIIII\n@n4/1\nACGT\n+\n##II\n@n5/1\nACGT\n+\nIIII\n@n6/1\nACGT\n+\n##II\n") (codes "@n1/2\nTTTT\n+\nII##\n@n2/2\nTTTT\n+\nII##\n@n3/2\nTTTT\n+\n!!!!\n@n4/2\nTTTT\n+\nII##\n@n5/2\nTTTT\n+\nII##\n") in
-    (left.fault ≡ Some (MateMissing Reverse 6)) × (counts_of trimming left.mates ≡ five)
+    (left.fault ≡ Some (MateMissing Reverse 6)) × (counts_of trimming left.mates ≡ counts 5 4 1 0 0)
 six_and_five = (refl, refl)
 
 eleven_interleaved : let left = interleaved_pairs true Sanger 0
     (codes "@n1/1\nACGT\n+\nIIII\n@n1/2\nTTTT\n+\nII##\n@n2/1\nACGT\n+\n##II\n@n2/2\nTTTT\n+\nII##\n@n3/1\nACGT\n+\nIIII\n@n3/2\nTTTT\n+\n!!!!\n@n4/1\nACGT\n+\n##II\n@n4/2\nTTTT\n+\nII##\n@n5/1\nACGT\n+\nIIII\n@n5/2\nTTTT\n+\nII##\n@n6/1\nACGT\n+\n##II\n") in
-    (left.fault ≡ Some (MateMissing Reverse 6)) × (counts_of trimming left.mates ≡ five)
+    (left.fault ≡ Some (MateMissing Reverse 6)) × (counts_of trimming left.mates ≡ counts 5 4 1 0 0)
 eleven_interleaved = (refl, refl)
 
 -- The summary.
 
-seven_pairs : summary_of (record {
-  pairs = 7;
-  both = 5;
-  forward_only = 2;
-  reverse_only =
-      0;
-  dropped = 0;
-})
+seven_pairs : summary_of (counts 7 5 2 0 0)
     ≡ codes "Input Read Pairs: 7\nBoth Surviving: 5\nForward Only Surviving: 2\nReverse Only Surviving: 0\nDropped: 0\n"
 unfolding digits
 seven_pairs = refl
 
-capped_pairs : (capped (record {
-  pairs = 18446744073709551615;
-  both = 0;
-  forward_only =
-      0;
-  reverse_only = 0;
-  dropped = 0;
-})
-    (record { pairs = 1; both = 2; forward_only = 3; reverse_only = 4; dropped = 5 }))
-    ≡ record {
-      pairs = 18446744073709551615;
-      both = 2;
-      forward_only = 3;
-      reverse_only = 4;
-      dropped =
-          5;
-    }
+capped_pairs : capped (counts 18446744073709551615 0 0 0 0) (counts 1 2 3 4 5)
+    ≡ counts 18446744073709551615 2 3 4 5
 capped_pairs = refl

@@ -30,6 +30,7 @@ const FIELD_ROOM: usize = 21;
 const NUMBERS_ROOM: usize = 4 * FIELD_ROOM + 1;
 
 // Writes a blank and a number that end before `end`, and returns where they begin.
+#[tactic(auto, using(std::proofs::lemmas::Grind::common_steps, crate::proofs::TextLemmas::short))]
 #[inline(always)]
 fn put_field(text: &mut [u8], end: usize, number: usize) -> usize
     requires room { FIELD_ROOM ≤ end }

@@ -108,6 +108,7 @@ pub(crate) fn compare_names(forward: &[u8], reverse: &[u8]) -> (NameLengths, boo
 }
 
 // Compares the names in two first words that differ at most in their last bytes.
+#[tactic(auto, using(std::proofs::lemmas::Grind::common_steps, crate::proofs::NameLemmas::short_names, crate::proofs::NameLemmas::whole_names))]
 fn compare_alike(word: &[u8], mate: &[u8]) -> (NameLengths, bool)
     requires some { 0 < length word.now }
     requires len { length mate.now ≡ length word.now }

@@ -97,6 +97,7 @@ impl<F: Feed, G: Feed> PairSource<F, G> {
     /// returns the same.
     ///
     /// Records are read, and faults reported, as by [`next`](PairSource::next).
+    #[tactic(auto, using(std::proofs::lemmas::Grind::common_steps, crate::proofs::SourceLaws::is_pair))]
     pub fn advance(&mut self) -> Result<bool, InputFault>
         // After the end or a fault, the same is returned again, and nothing more is read.
         ensures again { MatchOption self.old.last (Unit {0})

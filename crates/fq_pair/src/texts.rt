@@ -222,6 +222,7 @@ fn make_room(out: &mut Vec<u8>, read: &ReadView<'_>, kept: Kept) -> Result<(), O
 }
 
 // Appends the record of the kept bases of a read. The text must have room.
+#[tactic(auto, using(std::proofs::lemmas::Grind::common_steps, crate::proofs::TextLemmas::can_recode, crate::proofs::TextLemmas::record_of_kept))]
 #[inline(always)]
 fn put_kept(out: &mut Vec<u8>, read: &ReadView<'_>, kept: Kept, recode: bool)
     requires within { IsWithin (length read.now.seq) (Some kept) }

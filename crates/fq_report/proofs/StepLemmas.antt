@@ -1,5 +1,5 @@
 -- Steps, one after the other.
-use Rattle.std.proofs.Common.{◌≡◌, ◌<◌, ◌≤◌, ℕ, ◌+◌, List, [], ◌∷◌, ◌++◌, length, map, drop, get_or, refl, ap, sym, ◌∙◌, add-one, append_assoc, drop-cons}
+use Rattle.std.proofs.Common.{arith, ◌≡◌, ◌<◌, ◌≤◌, ℕ, ◌+◌, List, [], ◌∷◌, ◌++◌, length, map, drop, get_or, refl, add-one, append_assoc, drop-cons}
 use Rattle.std.proofs.lemmas.List.{map-append, append-nil, drop_all}
 use Rattle.serde_json.specs.declared.value.Value.{Value}
 use Rattle.serde_json.specs.View.{view}
@@ -19,6 +19,4 @@ next_step steps step number words t within is =
 pub all_steps : (steps : List Value) (number : ℕ) (words : List (List ℕ)) (t : Tally)
     → length words ≤ number → map view steps ++ steps_from number (drop number words) t ≡ steps_from
     0 words t → map view steps ≡ steps_from 0 words t
-all_steps steps number words t behind so_far = sym (append-nil (map view steps))
-    ∙ ap (λ (rest : List (List ℕ)). map view steps ++ steps_from number rest t)
-    (sym (drop_all number words behind)) ∙ so_far
+all_steps steps number words t behind so_far = grind (arith, append-nil, drop_all)

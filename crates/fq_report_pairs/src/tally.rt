@@ -46,6 +46,7 @@ impl Tally {
     }
 
     /// Counts one pair as [`add`](Tally::add) does, given what the steps do to each mate.
+    #[tactic(auto, using(fq_report_reads::proofs::LeftLaws::survives_as_kept))]
     pub fn add_trimmed(
         &mut self,
         pair: PairView<'_>,

@@ -1,14 +1,12 @@
 -- Facts that name the columns one by one. Those of the rows of one column are in PositionLemmas and
 -- FewLemmas.
-use Rattle.std.proofs.Common.{◌≡◌, ℕ, ◌+◌, ◌*◌, ◌<◌, ◌≤◌, Bool, true, nat_le, List, [], ◌∷◌, ◌++◌, length, take, map, get_or, replicate, min, refl, ap, ap₂, sym, ◌∙◌, arith, max}
+use Rattle.std.proofs.Common.{◌≡◌, ℕ, ◌+◌, ◌*◌, ◌<◌, ◌≤◌, Bool, true, nat_le, List, [], ◌∷◌, ◌++◌, length, take, take-add, drop, map, get_or, replicate, min, refl, ap, ap₂, sym, ◌∙◌, arith, max}
 use Rattle.std.specs.List.{All, list_all}
-use Rattle.std.proofs.lemmas.List.{take_more, length-take-le, length-map, map-append}
-use Rattle.std.proofs.lemmas.Bool.{and_from}
+use Rattle.std.proofs.lemmas.List.{drop_more, length-drop, length-take-le, length-map, map-append}
 use Rattle.fq_text.specs.declared.encoding.Encoding.{Encoding}
 use Rattle.fq_text.specs.Scores.{is_scored, value_of}
-use Rattle.fq_text.proofs.ScoreLemmas.{at_place}
 use Rattle.fq_trim.specs.Keeping.{scores}
-use Rattle.fq_trim.proofs.PlaceLemmas.{all_taken}
+use Rattle.fq_trim.proofs.PlaceLemmas.{all_taken, all_dropped}
 use Rattle.fq_report_reads.specs.declared.columns.Columns.{Columns}
 use Rattle.fq_report_reads.specs.Rows.{rows_plus}
 use Rattle.fq_report_reads.specs.Courses.{Part}
@@ -86,6 +84,29 @@ pub columns_one : (at row base byte : ℕ) (e : Encoding) → row ≡ min at 100
     one_in row base (value_of e byte) ≡ columns_from at e (base ∷ []) (byte ∷ [])
 columns_one at row base byte e is = simp (λ (a : ℕ). placed_one at row a is)
 
+-- the next n of several bases are counted
+pub more_counted : (start now new : Columns) (at from n : ℕ) (e : Encoding) (seq qual : List ℕ) →
+    now ≡ columns_plus start (columns_from at e (take from seq) (take from qual)) →
+    length qual ≡ length seq → length seq ≤ 1048576 → list_all (is_scored e) qual ≡ true →
+    from + n ≤ length seq →
+    new ≡ columns_plus now (columns_from (at + from) e (take n (drop from seq))
+    (take n (drop from qual))) →
+    new ≡ columns_plus start (columns_from at e (take (from + n) seq) (take (from + n) qual))
+more_counted start now new at from n e seq qual so_far same few scored within here =
+    let fs = length-take-le from seq (omega arith) in
+    let fq = length-take-le from qual (omega arith) in
+    let s = length-take-le n (drop from seq) (omega (arith, length-drop from seq)) in
+    let q = length-take-le n (drop from qual) (omega (arith, length-drop from qual)) in
+    let more = columns_from (at + from) e (take n (drop from seq)) (take n (drop from qual)) in
+    here ∙ ap (λ x. columns_plus x more) so_far
+    ∙ columns_assoc start (columns_from at e (take from seq) (take from qual)) more
+    ∙ ap (columns_plus start) (columns_joined at (at + from) e (take from seq) (take from qual)
+    (take n (drop from seq)) (take n (drop from qual)) (omega arith) (omega arith) (omega arith)
+    (omega arith) (omega arith) (all_taken (is_scored e) qual from scored)
+    (all_taken (is_scored e) (drop from qual) n (all_dropped (is_scored e) qual from scored)))
+    ∙ ap₂ (λ x y. columns_plus start (columns_from at e x y)) (sym (take-add from n seq))
+    (sym (take-add from n qual))
+
 -- one more of several bases is counted
 pub counted_next : (start now new : Columns) (at i row score : ℕ) (e : Encoding)
     (seq qual : List ℕ) →
@@ -98,23 +119,12 @@ pub counted_next : (start now new : Columns) (at i row score : ℕ) (e : Encodin
     new ≡ columns_plus start (columns_from at e (take (i + 1) seq) (take (i + 1) qual))
 counted_next start now new at i row score e seq qual so_far row_is score_is within same few scored
     here =
-    let base = get_or seq i 0 in
-    let byte = get_or qual i 0 in
     let long : i < length qual = omega arith in
-    let size = length-take-le i seq (omega arith) in
-    let sizes = length-take-le i qual (omega arith) in
-    let one : list_all (is_scored e) (byte ∷ []) ≡ true =
-    and_from (is_scored e byte) true (at_place (is_scored e) qual i scored long) refl in
-    here
-    ∙ ap (λ x. columns_plus now (one_in row base x)) score_is
-    ∙ ap₂ columns_plus so_far (columns_one (at + i) row base byte e row_is)
-    ∙ columns_assoc start (columns_from at e (take i seq) (take i qual))
-    (columns_from (at + i) e (base ∷ []) (byte ∷ []))
-    ∙ ap (columns_plus start) (columns_joined at (at + i) e (take i seq) (take i qual) (base ∷ [])
-    (byte ∷ []) (omega arith) (omega arith) refl (omega arith) (omega arith)
-    (all_taken (is_scored e) qual i scored) one)
-    ∙ ap₂ (λ s t. columns_plus start (columns_from at e s t)) (sym (take_more seq i 0 within))
-    (sym (take_more qual i 0 long))
+    more_counted start now new at i 1 e seq qual so_far same few scored (omega arith) (here
+    ∙ ap (λ x. columns_plus now (one_in row (get_or seq i 0) x)) score_is
+    ∙ ap (columns_plus now) (columns_one (at + i) row (get_or seq i 0) (get_or qual i 0) e row_is)
+    ∙ ap₂ (λ s t. columns_plus now (columns_from (at + i) e (take 1 s) (take 1 t)))
+    (sym (drop_more seq i 0 within)) (sym (drop_more qual i 0 long)))
 
 -- What is counted of vectors.
 

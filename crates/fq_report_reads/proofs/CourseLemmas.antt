@@ -33,6 +33,15 @@ kept_course number start n p course = record {
   dropped = course.dropped;
 }
 
+-- a course that goes on after so many bases were removed and these lists shortened the read
+abbrev pub goes_on : ℕ → List ℕ → Course → Course
+goes_on front shortened course = record {
+  left = course.left;
+  front = front + course.front;
+  shortened = shortened ++ course.shortened;
+  dropped = course.dropped;
+}
+
 after_places : (number start n : ℕ) (p : Part) (course : Course) → 0 < n →
     after number (places start n) p course ≡ kept_course number start n p course
 after_places number start zero p course some = absurd (omega arith)
@@ -199,7 +208,8 @@ module _ (steps : List Step) (read : Read) (number start stop : ℕ)
       let seq = part_again read.seq start m k.start count (omega arith) in
       let qual = part_again read.qual start m k.start count (omega arith) in
       let at_number = alone_at steps number in_steps in
-      let next = next_kept number (alone steps) read.encoding at_hand.seq at_hand.qual k (omega arith)
+      let next = next_kept number (alone steps) read.encoding at_hand.seq at_hand.qual k
+      (omega arith)
       (ap (λ (s : List Step). kept s (scores read.encoding at_hand.qual)) at_number ∙ is) fits
       (omega arith) in cc
 

@@ -201,13 +201,8 @@ pub row_behind : (f : ℕ → ℕ) → f 0 ≡ 0 → (rows len most at k : ℕ) 
     rows_plus xs (replicate at 0 ++ map f (ys ++ replicate k 0))
     ≡ rows_plus xs (replicate at 0 ++ map f ys)
 row_behind f none rows len most at k xs ys few bound room =
-    let size = few.size in
-    let small : Small xs = λ j. let one = few.small j in omega arith in
-    ap (λ ns. rows_plus xs (replicate at 0 ++ ns)) (map-append f ys (replicate k 0)
-    ∙ ap (λ ns. map f ys ++ ns) (zeros_mapped f none k))
-    ∙ ap (rows_plus xs) (sym (append_assoc (replicate at 0) (map f ys) (replicate k 0)))
-    ∙ plus_zeros_behind xs (replicate at 0 ++ map f ys) k small
-    (omega (arith, length-shifted at (map f ys), length-map ys f))
+    let cut = map-append f ys (replicate k 0) in let long = length-map ys f in
+    grind (arith, common_steps, zeros_mapped, append_assoc, plus_zeros_behind, length-shifted)
 
 -- if each number is at most this, so are all of a list
 pub mapped_at_most : (f : ℕ → ℕ) (most : ℕ) → ((x : ℕ) → f x ≤ most) → (xs : List ℕ) →

@@ -1,7 +1,7 @@
 -- Bases that are counted by vectors, one after the other.
-use Rattle.std.proofs.Common.{◌≡◌, ℕ, zero, suc, ◌+◌, ◌<◌, ◌≤◌, Bool, true, List, [], ◌∷◌, ◌++◌, length, take, drop, map, set, get_or, replicate, refl, ap, ap₂, sym, ◌∙◌, arith, max, ◌-◌, ◌||◌, take-add, subst}
+use Rattle.std.proofs.Common.{◌≡◌, ℕ, zero, suc, ◌+◌, ◌<◌, ◌≤◌, Bool, true, List, [], ◌∷◌, ◌++◌, length, take, drop, map, set, get_or, replicate, refl, ap, ap₂, sym, ◌∙◌, arith, max, ◌-◌, ◌||◌, subst}
 use Rattle.std.specs.List.{list_all}
-use Rattle.std.proofs.lemmas.List.{append_assoc, length-take-le, length-map, take-append-drop, take_all, length-drop, drop-drop, drop_more, get_or_at, set_at, map_more}
+use Rattle.std.proofs.lemmas.List.{append_assoc, length-take-le, length-map, take_all, length-drop, drop-drop, drop_more, get_or_at, set_at, map_more}
 use Rattle.std.proofs.lemmas.List.Folds.{list_all-append}
 use Rattle.std.proofs.lemmas.Bool.{and_parts, and_from}
 use Rattle.fq_text.specs.declared.encoding.Encoding.{Encoding}
@@ -13,7 +13,7 @@ use Rattle.std.proofs.lemmas.Simd.{length-chunk}
 use lib.Lanes.{chunk}
 use Rattle.fq_report_reads.specs.Counting.{is_lane, most_reads}
 use Rattle.fq_report_reads.specs.Columns.{AreFew, HoldsFew, columns_from, columns_plus, first_rows, lanes_at}
-use Rattle.fq_report_reads.proofs.ColumnLemmas.{columns_assoc, columns_joined, few_weaker, lanes_are_columns, lanes_behind, lanes_cut, lanes_more, lanes_moved, lanes_nothing}
+use Rattle.fq_report_reads.proofs.ColumnLemmas.{columns_assoc, more_counted, few_weaker, lanes_are_columns, lanes_behind, lanes_cut, lanes_more, lanes_moved, lanes_nothing}
 use Rattle.std.proofs.lemmas.Grind.{common_steps}
 
 -- Lanes that hold scored bytes, and zeros beside them.
@@ -66,9 +66,6 @@ module _ (start now : Columns) (at from : ℕ) (e : Encoding) (seq qual : List �
   front_scored : list_all (is_scored e) (take from qual) ≡ true
   front_scored = all_taken (is_scored e) qual from scored
 
-  rest_scored : list_all (is_scored e) (drop from qual) ≡ true
-  rest_scored = all_dropped (is_scored e) qual from scored
-
   -- after one more full vector, the bases up to its end are counted
   pub vector_next : (new : Columns) → from + 32 ≤ length seq →
       new ≡ columns_plus now (lanes_at (at + from) e (chunk from 32 seq) (chunk from 32 qual)) →
@@ -76,39 +73,24 @@ module _ (start now : Columns) (at from : ℕ) (e : Encoding) (seq qual : List �
   vector_next new room here =
       let s = length-chunk from 32 seq room in
       let q = length-chunk from 32 qual (omega arith) in
-      let fs = front_s in
-      let fq = front_q in
-      let all = all_taken (is_scored e) (drop from qual) 32 rest_scored in
-      here
-      ∙ ap₂ columns_plus so_far (lanes_are_columns (at + from) e (chunk from 32 seq) (chunk from 32
-      qual) all (omega arith) (omega arith))
-      ∙ columns_assoc start (columns_from at e (take from seq) (take from qual))
-      (columns_from (at + from) e (chunk from 32 seq) (chunk from 32 qual))
-      ∙ ap (columns_plus start) (columns_joined at (at + from) e (take from seq) (take from qual)
-      (chunk from 32 seq) (chunk from 32 qual) (omega arith) (omega arith) (omega arith)
-      (omega arith) (omega arith) front_scored all)
-      ∙ ap₂ (λ x y. columns_plus start (columns_from at e x y)) (sym (take-add from 32 seq))
-      (sym (take-add from 32 qual))
+      more_counted start now new at from 32 e seq qual so_far same (omega arith) scored room (here
+      ∙ ap (columns_plus now) (lanes_are_columns (at + from) e (chunk from 32 seq)
+      (chunk from 32 qual)
+      (all_taken (is_scored e) (drop from qual) 32 (all_dropped (is_scored e) qual from scored))
+      (omega arith) (omega arith)))
 
   -- after the bases that were left, all are counted
   pub rest_next : (new : Columns) →
       new ≡ columns_plus now (columns_from (at + from) e (drop from seq) (drop from qual)) →
       new ≡ columns_plus start (columns_from at e seq qual)
   rest_next new here =
-      let s = length-drop from seq in
-      let q = length-drop from qual in
-      let fs = front_s in
-      let fq = front_q in
-      here
-      ∙ ap (λ x. columns_plus x (columns_from (at + from) e (drop from seq) (drop from qual)))
-      so_far
-      ∙ columns_assoc start (columns_from at e (take from seq) (take from qual))
-      (columns_from (at + from) e (drop from seq) (drop from qual))
-      ∙ ap (columns_plus start) (columns_joined at (at + from) e (take from seq) (take from qual)
-      (drop from seq) (drop from qual) (omega arith) (omega arith) (omega arith) (omega arith)
-      (omega arith) front_scored rest_scored)
-      ∙ ap₂ (λ x y. columns_plus start (columns_from at e x y)) (take-append-drop from seq)
-      (take-append-drop from qual)
+      let n = length seq - from in
+      let s = take_all n (drop from seq) (omega (arith, length-drop from seq)) in
+      let q = take_all n (drop from qual) (omega (arith, length-drop from qual)) in
+      more_counted start now new at from n e seq qual so_far same (omega arith) scored (omega arith)
+      (here ∙ ap₂ (λ x y. columns_plus now (columns_from (at + from) e x y)) (sym s) (sym q))
+      ∙ ap₂ (λ x y. columns_plus start (columns_from at e x y))
+      (take_all (from + n) seq (omega arith)) (take_all (from + n) qual (omega arith))
 
   -- if no bases are left, all are counted
   pub all_counted : length seq ≤ from → now ≡ columns_plus start (columns_from at e seq qual)

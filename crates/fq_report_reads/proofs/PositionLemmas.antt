@@ -1,7 +1,7 @@
 -- Rows of bases by position, and their sums, in one column.
-use Rattle.std.proofs.Common.{◌≡◌, ℕ, zero, suc, ◌+◌, ◌*◌, ◌<◌, ◌≤◌, Bool, true, cond, nat_le, List, [], ◌∷◌, ◌++◌, length, take, drop, map, set, get_or, replicate, sum, min, refl, ap, ap₂, sym, ◌∙◌, arith}
+use Rattle.std.proofs.Common.{◌≡◌, ℕ, zero, suc, ◌+◌, ◌*◌, ◌<◌, ◌≤◌, Bool, true, cond, nat_le, List, [], ◌∷◌, ◌++◌, length, take, drop, map, set, get_or, replicate, sum, min, add-one, refl, ap, ap₂, sym, ◌∙◌, arith}
 use Rattle.std.specs.List.{list_all}
-use Rattle.std.proofs.lemmas.List.{append_assoc, length-append, length-replicate, length-map, map-append}
+use Rattle.std.proofs.lemmas.List.{get_or_read, append_assoc, length-append, length-replicate, length-map, map-append}
 use Rattle.std.proofs.lemmas.List.Sums.{sum_by-cons, sum_by-append}
 use Rattle.std.proofs.lemmas.List.Folds.{sum_by-replicate}
 use Rattle.std.proofs.lemmas.Bool.{cases_lt, and_parts, le-leb, lt-leb}
@@ -54,8 +54,7 @@ pub grown_behind : (xs : List ℕ) (n m : ℕ) → Small xs → length xs + m �
 grown_behind [] n m small size = ap (λ k. replicate k 0) (omega arith)
 grown_behind (x ∷ xs) zero m small size = absurd (omega arith)
 grown_behind (x ∷ xs) (suc n) m small size =
-    ap₂ (λ y ys. y ∷ ys) (sym (none_more x (first_small x xs small)))
-    (grown_behind xs n m (λ k. small (suc k)) (omega arith))
+    grind (arith, common_steps, none_more, first_small, grown_behind xs n m (λ k. small (suc k)))
 
 -- growing to no more rows than there are changes nothing
 pub grown_within : (xs : List ℕ) (n : ℕ) → Small xs → n ≤ length xs →
@@ -63,11 +62,10 @@ pub grown_within : (xs : List ℕ) (n : ℕ) → Small xs → n ≤ length xs �
 grown_within xs zero small within = sym (plus_none xs)
 grown_within [] (suc n) small within = absurd (omega arith)
 grown_within (x ∷ xs) (suc n) small within =
-    ap₂ (λ y ys. y ∷ ys) (sym (none_more x (first_small x xs small)))
-    (grown_within xs n (λ k. small (suc k)) (omega arith))
+    grind (arith, common_steps, none_more, first_small, grown_within xs n (λ k. small (suc k)))
 
 -- a number more in a row, which is there
-pub more_at : (xs : List ℕ) (row a : ℕ) → a ≤ 18446744073709551615 →
+more_at : (xs : List ℕ) (row a : ℕ) → a ≤ 18446744073709551615 →
     set (rows_plus xs (replicate (suc row) 0)) row
     (capped_sum (get_or (rows_plus xs (replicate (suc row) 0)) row 0) a)
     ≡ rows_plus xs (replicate row 0 ++ (a ∷ []))
@@ -75,6 +73,17 @@ more_at [] zero a small = ap (λ n. n ∷ []) (omega arith)
 more_at [] (suc row) a small = ap (λ ns. 0 ∷ ns) (more_at [] row a small)
 more_at (x ∷ xs) zero a small = ap (λ n. n ∷ rows_plus xs []) (omega arith)
 more_at (x ∷ xs) (suc row) a small = ap (λ ns. capped_sum x 0 ∷ ns) (more_at xs row a small)
+
+-- a number more in a row of a list that was grown to have it
+pub more_in : (xs zs : List ℕ) (row x w a : ℕ) → zs ≡ rows_plus xs (replicate (row + 1) 0) →
+    row < length zs → x ≡ get_or zs row x → w ≡ min (x + a) 18446744073709551615 →
+    a ≤ 18446744073709551615 → set zs row w ≡ rows_plus xs (replicate row 0 ++ (a ∷ []))
+more_in xs zs row x w a grown long read sum small =
+    let here = get_or_read zs row x long read 0 in
+    ap (set zs row) (sum ∙ ap (λ n. capped_sum n a) here)
+    ∙ ap (λ ys. set ys row (capped_sum (get_or ys row 0) a))
+    (grown ∙ ap (λ n. rows_plus xs (replicate n 0)) (add-one row))
+    ∙ more_at xs row a small
 
 -- Numbers by their positions. All after `most` are added up.
 
@@ -136,14 +145,8 @@ pub placed_joined : (at k : ℕ) (us vs : List ℕ) → k ≡ at + length us →
     sum us + sum vs ≤ 18446744073709551615 →
     rows_plus (placed at us) (placed k vs) ≡ placed at (us ++ vs)
 placed_joined at k us vs behind small =
-    let front : List ℕ = replicate at 0 ++ us in
-    let long : k ≡ length front = behind
-    ∙ omega (arith, length-append (replicate at 0) us, length-replicate {A = ℕ} at 0) in
-    let sums = sum-append (replicate at 0) us in
     let none = sum-zeros at in
-    ap (λ n. rows_plus (placed at us) (placed n vs)) long
-    ∙ joined front vs (omega arith)
-    ∙ ap by_position (append_assoc (replicate at 0) us vs)
+    grind (arith, common_steps, length-append, length-replicate, sum-append, joined, append_assoc)
 
 cut_none : (most at : ℕ) → cut_at most (replicate at 0 ++ []) ≡ replicate (min at (suc most)) 0
 unfolding cut_at

@@ -1,5 +1,5 @@
 -- Rows and their sums.
-use Rattle.std.proofs.Common.{◌≡◌, ℕ, zero, suc, ◌+◌, ◌<◌, ◌≤◌, List, [], ◌∷◌, length, take, set, get_or, replicate, min, max, refl, ap, ap₂, arith, add-one, sym, ◌∙◌}
+use Rattle.std.proofs.Common.{◌≡◌, ℕ, zero, suc, ◌+◌, ◌<◌, ◌≤◌, List, [], ◌∷◌, length, take, set, get_or, replicate, min, max, refl, ap, ap₂, arith, add-one}
 use Rattle.std.proofs.lemmas.List.{get_or_read, length-append, length-replicate}
 use Rattle.fq_trim.specs.Sums.{capped_sum}
 use Rattle.fq_report_reads.specs.Rows.{with_one, rows_plus}
@@ -47,15 +47,8 @@ pub grown_next : (xs ys zs : List ℕ) (i x w : ℕ) → i < length ys →
     w ≡ min (x + get_or ys i 0) 18446744073709551615 →
     set zs i w ≡ rows_plus (rows_plus xs (replicate (length ys) 0)) (take (i + 1) ys)
 grown_next xs ys zs i x w below so_far read sum =
-    let n = length ys in
-    let grown = rows_plus xs (replicate n 0) in
-    let size : n ≤ length grown =
-    omega (arith, length-rows_plus xs (replicate n 0), length-replicate {A = ℕ} n 0) in
-    let a = get_or_read zs i x (grown_long xs ys zs i so_far below) read 0 in
-    ap (set zs i) (sum ∙ ap (λ m. capped_sum m (get_or ys i 0)) a)
-    ∙ ap (λ ns. set ns i (capped_sum (get_or ns i 0) (get_or ys i 0))) so_far
-    ∙ sym (plus_more grown ys i (omega arith) below)
-    ∙ ap (λ m. rows_plus grown (take m ys)) (sym (add-one i))
+    let long = grown_long xs ys zs i so_far below in
+    grind (arith, common_steps, length-rows_plus, length-replicate, get_or_read, plus_more, add-one)
 
 -- once all rows are added to a list that was grown so, it is both lists together
 pub grown_plus : (xs ys : List ℕ) → ((k : ℕ) → get_or ys k 0 ≤ 18446744073709551615) →
@@ -67,5 +60,4 @@ grown_plus [] (y ∷ ys) small =
     let same : capped_sum 0 y ≡ y = omega arith in
     ap₂ (λ n ns. n ∷ ns) same (grown_plus [] ys (λ k. small (suc k)))
 grown_plus (x ∷ xs) (y ∷ ys) small =
-    let same : capped_sum (capped_sum x 0) y ≡ capped_sum x y = omega arith in
-    ap₂ (λ n ns. n ∷ ns) same (grown_plus xs ys (λ k. small (suc k)))
+    grind (arith, common_steps, grown_plus xs ys (λ k. small (suc k)))

@@ -61,7 +61,8 @@ module _ (p : Inside) (x : Columns) {y now : Columns} {t : SideColumns} (view : 
     paired_more was is =
         let both = columns_swap p.paired.value x p.unpaired.value in
         let before = columns_assoc p.rest.value (columns_plus p.paired.value p.unpaired.value) x in
-        let paired = columns_swap p.paired.value x p.paired_moved.value in grind (arith, common_steps)
+        let paired = columns_swap p.paired.value x p.paired_moved.value in
+        grind (arith, common_steps)
 
     -- bases counted as unpaired are counted both as they were read and as left alone
     pub unpaired_more : y ≡ p.unpaired.value → survives ≡ false →
@@ -70,7 +71,8 @@ module _ (p : Inside) (x : Columns) {y now : Columns} {t : SideColumns} (view : 
     unpaired_more was is =
         let both = columns_assoc p.paired.value p.unpaired.value x in
         let before = columns_assoc p.rest.value (columns_plus p.paired.value p.unpaired.value) x in
-        let unpaired = columns_swap p.unpaired.value x p.unpaired_moved.value in grind (arith, common_steps)
+        let unpaired = columns_swap p.unpaired.value x p.unpaired_moved.value in
+        grind (arith, common_steps)
 
 -- columns of two counters, added in turn to none
 pub both_added : {none first both x y a b : Columns} → none ≡ no_columns →

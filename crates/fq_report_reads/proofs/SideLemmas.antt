@@ -148,10 +148,3 @@ survivor read k mate_survives t =
     let removed : length read.seq - k.start - length left.seq ≡ length read.seq - k.stop =
     omega arith in
     simp (is, removed)
-
--- sides are the same if their parts are
-pub parts_are : (s t : SideTally) → s.before ≡ t.before → s.paired ≡ t.paired →
-    s.unpaired ≡ t.unpaired → s.front ≡ t.front → s.behind ≡ t.behind →
-    s.removed_front ≡ t.removed_front → s.removed_behind ≡ t.removed_behind →
-    s.positions ≡ t.positions → s.steps ≡ t.steps → s ≡ t
-parts_are s t a b c d e f g h i = grind (arith, common_steps)

@@ -75,6 +75,7 @@ impl Rows {
     }
 
     // Adds to one row.
+    #[tactic(auto, using(std::proofs::lemmas::Grind::common_steps, crate::proofs::RowLemmas::grown_row, crate::proofs::PositionLemmas::more_in))]
     pub(crate) fn add_to(&mut self, row: usize, count: u64)
         requires { row ≤ last_row }
         ensures { self.new ≡ rows_plus self.old (replicate row 0 ++ (count ∷ [])) }

@@ -60,6 +60,7 @@ impl SideTally {
     }
 
     // Counts one more read and what the steps do to it.
+    #[tactic(auto, using(crate::proofs::LeftLaws::left_as_kept))]
     pub(crate) fn add(
         &mut self,
         read: &ReadView<'_>,
@@ -92,6 +93,7 @@ impl SideTally {
     }
 
     // Counts one more read that keeps bases.
+    #[tactic(auto, using(std::proofs::lemmas::Grind::common_steps, crate::proofs::SideLemmas::few_bases))]
     fn add_survivor(&mut self, read: &ReadView<'_>, kept: Kept, mate_survives: bool)
         requires { kept.stop ≤ length read.now.seq }
         ensures { self.new ≡ with_left read.now
@@ -142,6 +144,7 @@ fn qual_of<'a>(read: &'a ReadView<'_>) -> &'a [u8]
 }
 
 // The counts of the bases that are kept of a read.
+#[tactic(auto, using(crate::proofs::SideLemmas::kept_part))]
 #[inline(always)]
 fn kept_bases(read: &ReadView<'_>, kept: Kept) -> BaseTally
     requires { kept.stop ≤ length read.now.seq }

@@ -103,6 +103,7 @@ impl SidePositions {
     }
 
     // Counts the bases of one more read that keeps bases.
+    #[tactic(auto, using(crate::proofs::SideColumnLemmas::kept_are_bases, crate::proofs::SideColumnLemmas::between_are_bases, crate::proofs::SideColumnLemmas::left_counted))]
     pub(crate) fn add_survivor(&mut self, read: &ReadView<'_>, kept: Kept, mate_survives: bool)
         requires { kept.stop ≤ length read.now.seq }
         ensures { self.new ≡ with_columns read.now

@@ -1,13 +1,13 @@
 -- The forward mate is kept, and the current record is its reverse mate.
-use Rattle.std.proofs.Common.{◌≡◌, true, false, Some, Ok, refl, is_some, arith, rules, ℕ, List, length, ap, ◌∙◌, ◌+◌, ◌++◌, suc, Bool, IsTrue, sym, ◌⊎◌, [], ⊎_elim, ◌*◌, Err, ◌≤◌, add-one, subst, Option}
+use Rattle.std.proofs.Common.{◌≡◌, true, false, Some, Ok, refl, is_some, arith, rules, ℕ, List, length, ap, ◌∙◌, ◌+◌, ◌++◌, suc, Bool, IsTrue, sym, ◌⊎◌, [], ⊎_elim, ◌*◌, Err, ◌≤◌, add-one}
 use Rattle.std.specs.Option.{IsSomeAnd}
 use Rattle.std.proofs.lemmas.Grind.{common_steps}
 use Rattle.std.proofs.lemmas.Result.{err_from_is_err_and}
 use Rattle.std.proofs.lemmas.List.{length-append}
-use Rattle.std.proofs.lemmas.Bool.{cond-true, cases_Bool, both_ways, cond-false}
+use Rattle.std.proofs.lemmas.Bool.{cases_Bool, both_ways}
 use Rattle.fq_text.specs.declared.encoding.Encoding.{Encoding}
 use Rattle.fq_text.specs.Grammar.{Read, Front, End, Faulty, Found, front}
-use Rattle.fq_text.specs.Records.{Records, from_front, records}
+use Rattle.fq_text.specs.Records.{records}
 use Rattle.fq_text.specs.Devices.{FeedState}
 use Rattle.fq_text.specs.Sources.{Sourced, KeepsCount, rest_in, IsTail, GivesRecord, held, LacksRecord, FaultIs, if_read, if_endless as endless_text, StopsText, EndsText}
 use Rattle.fq_pair.specs.Walks.{SideState, side_state, Draws, Uses}
@@ -24,12 +24,11 @@ use Rattle.fq_text.proofs.ResultLemmas.{err_mapped}
 use Rattle.fq_pair.specs.declared.fault.InputFault.TheVariants.{Text, NamesDiffer, MateMissing}
 use Rattle.fq_pair.specs.declared.side.Side.TheVariants.{Reverse}
 use Rattle.fq_pair.proofs.SourceLaws.{of_current, of_pair, of_titles}
-use Rattle.fq_pair.proofs.PairLaws.{records_of, records_of-front}
+use Rattle.fq_pair.proofs.PairLaws.{records_of}
 use Rattle.fq_pair.proofs.SideLemmas.{draws_then, uses_then, more_lines, lines_before, lines_left, lines_behind}
 use Rattle.fq_pair.proofs.InterleavedLaws.{interleaved_left_met, interleaved_pairs_of-stopped, interleaved_pairs_of-ended, interleaved_left_stopped}
 use Rattle.fq_pair.proofs.FrontLemmas.{front_more}
 use Rattle.fq_pair.proofs.TakenLemmas.{front_fewer, one_record}
-use Rattle.fq_text.specs.declared.fault.TextFault.TheVariants as text
 use Rattle.fq_pair.proofs.interleaved_source.advance_mates.Goals as goal
 
 -- How many records some lines hold.
@@ -38,14 +37,7 @@ use Rattle.fq_pair.proofs.interleaved_source.advance_mates.Goals as goal
 no_records : (e : Encoding) (ls : List (List ℕ)) →
     ((r : Read) (rest : List (List ℕ)) → front e ls ≡ Found r rest → ⊥) →
     length (records_of e ls).reads ≡ 0
-no_records e ls none = by_front (front e ls) refl
-  where
-    by_front : (x : Front) → front e ls ≡ x → length (records_of e ls).reads ≡ 0
-    by_front End is = ap (λ (t : Records). length t.reads) (records_of-front e ls
-        ∙ ap (from_front (records_of e)) is)
-    by_front (Faulty y) is = ap (λ (t : Records). length t.reads) (records_of-front e ls
-        ∙ ap (from_front (records_of e)) is)
-    by_front (Found r rest) is = absurd (none r rest is)
+no_records e ls none = grind (arith, common_steps)
 
 -- Two records of one source, one after the other.
 
@@ -56,17 +48,8 @@ module _ {F : Type 0} (state : F → FeedState) (a b c : Sourced F) (p : KeepsCo
   abbrev side : Sourced F → SideState
   side s = record (side_state state s) { failures = 0 }
 
-  abbrev drawn_in : (old new : Sourced F) → KeepsCount state old new → Draws (side old) (side new) 0
-  drawn_in old new k = record {
-    told = k.told;
-    max_reads = k.max_reads;
-    grows = k.grows;
-    ended =
-        k.ended;
-    bytes = k.fed;
-    size = k.length;
-    failures = refl;
-  }
+  drawn_in : (old new : Sourced F) → KeepsCount state old new → Draws (side old) (side new) 0
+  drawn_in old new k = search rules
 
   abbrev used_in : (old new : Sourced F) → IsTail (rest_in state old) (rest_in state new)
       new.ended → Uses (side old) (side new)
@@ -76,16 +59,7 @@ module _ {F : Type 0} (state : F → FeedState) (a b c : Sourced F) (p : KeepsCo
   keeps_then : KeepsCount state a c
   keeps_then =
       let d = draws_then (side a) (side b) (side c) 0 (drawn_in a b p) (drawn_in b c q) in
-      record {
-        encoding = q.encoding ∙ p.encoding;
-        chunk = q.chunk ∙ p.chunk;
-        max_reads = d.max_reads;
-        told = d.told;
-        grows = d.grows;
-        ended = d.ended;
-        fed = d.bytes;
-        length = d.size;
-      }
+      search rules
 
   -- the rest of a rest of a text
   tail_then : IsTail (rest_in state a) (rest_in state b) b.ended →
@@ -108,10 +82,7 @@ module _ {F : Type 0} (state : F → FeedState) (a b c : Sourced F) (p : KeepsCo
       GivesRecord state a b f → IsTrue (state a.feed).tells →
       front_of state (asked a kept check given before)
       ≡ meeting_after check (suc given) f (front b.encoding (lines (rest_in state b)))
-  front_behind kept check given before f first told =
-      ap (interleaved_meeting check a.encoding (suc given)) (first.record_is told)
-      ∙ ap (λ (e : Encoding). meeting_after check (suc given) f
-      (front e (lines (rest_in state b)))) (sym p.encoding)
+  front_behind kept check given before f first told = grind (arith, common_steps)
 
   -- two records that were given make a pair if their names allow it
   two_given : (kept : Read) (check : Bool) (given : ℕ) (before now : Bool) (f r : Read) →
@@ -123,11 +94,8 @@ module _ {F : Type 0} (state : F → FeedState) (a b c : Sourced F) (p : KeepsCo
       let ls = lines (rest_in state c) in
       let n = suc given in
       let pair_is : IsTrue (state a.feed).tells →
-      front_of state (asked a kept check given before) ≡ Met (mates_in f r) ls ls = λ told.
-      front_behind kept check given before f first told
-      ∙ ap (meeting_after check n f) (second.record_is (p.told ∙ told))
-      ∙ cond-true (belong check (mates_in f r)) (Met (mates_in f r) ls ls) (Stopped (NamesDiffer n))
-      together in
+      front_of state (asked a kept check given before) ≡ Met (mates_in f r) ls ls =
+      λ told. grind (arith, common_steps, front_behind) in
       record {
         pair_is = pair_is;
         left = λ told. interleaved_left_met state (asked a kept check given before)
@@ -181,18 +149,7 @@ module _ {F : Type 0} (state : F → FeedState) (a b c : Sourced F) (p : KeepsCo
       -- there is no second record
       none_behind : (x y : Read) (ls rest : List (List ℕ)) →
           front a.encoding whole_lines ≡ Found x ls → front a.encoding ls ≡ Found y rest → ⊥
-      none_behind x y ls rest one two =
-          let longer : Found x (ls ++ more) ≡ Found f (lines (rest_in state b)) =
-          sym (front_more more a.encoding x ls whole_lines one)
-          ∙ ap (front a.encoding) (sym before) ∙ first in
-          let same : ls ++ more ≡ lines (rest_in state b) = cc in
-          ⊎_elim
-          (λ these. lacks (p.told
-          ∙ told) y rest (ap (λ (e : Encoding). front e (lines (whole_part (held state b c))))
-          p.encoding ∙ ap (front a.encoding) (sym these) ∙ two))
-          (λ none. absurd (let h : End ≡ Found y rest = ap (front a.encoding) (sym none) ∙ two in
-          cc))
-          (left ls same)
+      none_behind x y ls rest one two = grind (arith, common_steps, front_more, before, left)
 
       by_second : (x : Read) (ls : List (List ℕ)) → front a.encoding whole_lines ≡ Found x ls →
           (B : Front) → front a.encoding ls ≡ B → HasNone
@@ -220,82 +177,33 @@ module _ {F : Type 0} (state : F → FeedState) (a b c : Sourced F) (p : KeepsCo
       -- if the feed had not reported its end, they make one record
       one_came : b.ended ≡ false → length (records a.encoding (whole_part came)).reads ≡ 1
       one_came going =
-          let behind = lines (whole_part (held state b c)) in
-          let left_is : lines (rest_in state b) ≡ behind ++ more =
-          lines_behind (side a) (side b) (side c) 0 (drawn_in a b p) (drawn_in b c q) told
-          (used_in a b t) going in
-          let found : front a.encoding whole_lines ≡ Found f behind =
-          front_fewer a.encoding f whole_lines behind more (ap (front a.encoding) (sym before)
-          ∙ first ∙ ap (Found f) left_is) in
-          one_record a.encoding f whole_lines behind found
-          ∙ ap suc (no_records a.encoding behind (λ r rest is. lacks (p.told ∙ told) r rest
-          (ap (λ (e : Encoding). front e behind) p.encoding ∙ is)))
+          grind (
+            arith,
+            before,
+            lines_behind (side a) (side b) (side c) 0 (drawn_in a b p) (drawn_in b c q) told
+                (used_in a b t) going,
+            front_fewer,
+            one_record,
+            no_records,
+          )
 
 -- a fault of the text is that of the record that comes first, with its number
 stops_behind : (check : Bool) (n : ℕ) (f : Read) (x : Front) (k : ℕ) (why : TextFault) → k ≡ 2 * n →
     is_outside why ≡ false → FaultIs x k why →
     meeting_after check n f x ≡ Stopped (Text Reverse why)
-stops_behind check n f x k (text.NoTitle j) is inside p = ap (meeting_after check n f) p.0
-    ∙ ap (λ i. Stopped (Text Reverse (text.NoTitle i))) (sym (p.1 ∙ is))
-stops_behind check n f x k (text.BadSequence j) is inside p = ap (meeting_after check n f) p.0
-    ∙ ap (λ i. Stopped (Text Reverse (text.BadSequence i))) (sym (p.1 ∙ is))
-stops_behind check n f x k (text.NoPlus j) is inside p = ap (meeting_after check n f) p.0
-    ∙ ap (λ i. Stopped (Text Reverse (text.NoPlus i))) (sym (p.1 ∙ is))
-stops_behind check n f x k (text.PlusDiffers j) is inside p = ap (meeting_after check n f) p.0
-    ∙ ap (λ i. Stopped (Text Reverse (text.PlusDiffers i))) (sym (p.1 ∙ is))
-stops_behind check n f x k (text.BadQuality j) is inside p = ap (meeting_after check n f) p.0
-    ∙ ap (λ i. Stopped (Text Reverse (text.BadQuality i))) (sym (p.1 ∙ is))
-stops_behind check n f x k (text.QualityLong j) is inside p = ap (meeting_after check n f) p.0
-    ∙ ap (λ i. Stopped (Text Reverse (text.QualityLong i))) (sym (p.1 ∙ is))
-stops_behind check n f x k (text.QualityShort j) is inside p = ap (meeting_after check n f) p.0
-    ∙ ap (λ i. Stopped (Text Reverse (text.QualityShort i))) (sym (p.1 ∙ is))
-stops_behind check n f x k (text.TooLong j) is inside p = ap (meeting_after check n f) p.0
-    ∙ ap (λ i. Stopped (Text Reverse (text.TooLong i))) (sym (p.1 ∙ is))
-stops_behind check n f x k text.Read is inside p = absurd cc
-stops_behind check n f x k text.Endless is inside p = absurd cc
-stops_behind check n f x k text.OutOfMemory is inside p = absurd cc
+stops_behind check n f x k why is inside p = grind (arith, common_steps)
 
 cut_lacks : (P : Type 0) (why : TextFault) → is_cut why ≡ true → if_read P why → P
-cut_lacks P text.Read cut p = p
-cut_lacks P text.Endless cut p = p
-cut_lacks P text.OutOfMemory cut p = absurd cc
-cut_lacks P (text.NoTitle n) cut p = absurd cc
-cut_lacks P (text.BadSequence n) cut p = absurd cc
-cut_lacks P (text.NoPlus n) cut p = absurd cc
-cut_lacks P (text.PlusDiffers n) cut p = absurd cc
-cut_lacks P (text.BadQuality n) cut p = absurd cc
-cut_lacks P (text.QualityLong n) cut p = absurd cc
-cut_lacks P (text.QualityShort n) cut p = absurd cc
-cut_lacks P (text.TooLong n) cut p = absurd cc
+cut_lacks P why cut p = search rules
 
 -- the side of a cut
 cut_side : (P : Side → Type 0) (s : Side) (why : TextFault) → (is_cut why ≡ true → P s) →
     if_cut P (Text s why)
-cut_side P s text.Read p = p refl
-cut_side P s text.Endless p = p refl
-cut_side P s text.OutOfMemory p = tt
-cut_side P s (text.NoTitle n) p = tt
-cut_side P s (text.BadSequence n) p = tt
-cut_side P s (text.NoPlus n) p = tt
-cut_side P s (text.PlusDiffers n) p = tt
-cut_side P s (text.BadQuality n) p = tt
-cut_side P s (text.QualityLong n) p = tt
-cut_side P s (text.QualityShort n) p = tt
-cut_side P s (text.TooLong n) p = tt
+cut_side P s why p = search rules
 
 endless_behind : (P : Type 0) (why : TextFault) → endless_text P why →
     if_endless P P (Text Reverse why)
-endless_behind P text.Endless p = p
-endless_behind P text.Read p = tt
-endless_behind P text.OutOfMemory p = tt
-endless_behind P (text.NoTitle n) p = tt
-endless_behind P (text.BadSequence n) p = tt
-endless_behind P (text.NoPlus n) p = tt
-endless_behind P (text.PlusDiffers n) p = tt
-endless_behind P (text.BadQuality n) p = tt
-endless_behind P (text.QualityLong n) p = tt
-endless_behind P (text.QualityShort n) p = tt
-endless_behind P (text.TooLong n) p = tt
+endless_behind P why p = search rules
 
 -- what stays, and is false later, was false before
 not_before : {before later : Bool} → (before ≡ true → later ≡ true) → later ≡ false → before ≡ false
@@ -366,35 +274,16 @@ module _ {F : Type 0} (state : F → FeedState) (a b c : Sourced F) (p : KeepsCo
   mate_missing : EndsText state b c →
       (let why = MateMissing Reverse (given + 1) in
       StopsPairs state (asked a kept check given before) (stopped c f check given (Err why)) why)
-  mate_missing ends = pair_stops (MateMissing Reverse (given + 1)) refl tt tt tt tt (λ told.
-      front_behind state a b c p q kept check given before f first told
-      ∙ ap (meeting_after check (suc given) f) (ends.end_is (p.told ∙ told))
-      ∙ ap (λ k. Stopped (MateMissing Reverse k)) (sym (add-one given)))
+  mate_missing ends =
+      pair_stops (MateMissing Reverse (given + 1)) refl tt tt tt tt
+      (λ told. grind (arith, common_steps, front_behind))
 
   -- two records that were given make no pair if their names differ
   names_differ : (r : Read) (why : InputFault) → why ≡ NamesDiffer (given + 1) →
       GivesRecord state b c r → belong check (mates_in f r) ≡ false →
       StopsPairs state (asked a kept check given before) (stopped c f check given (Err why)) why
   names_differ r why is second apart =
-      let n = suc given in
-      let ls = lines (rest_in state c) in
-      let pair : GivesPair state (asked a kept false given before) (asked c f false (given + 1)
-      before) (mates_in f r) =
-      two_given state a b c p q kept false given before before f r first second refl in
-      let held : Option Read → Type 0 = λ o.
-      IsSomeAnd (names_kept (Some (Err (NamesDiffer (given + 1)))) (Some f) o) (λ names.
-      IsTrue (state a.feed).tells →
-      first_names (front_of state (asked a kept false given before)) ≡ Some names) in
-      subst (λ (y : InputFault). StopsPairs state (asked a kept check given before)
-      (stopped c f check given (Err y)) y) (sym is)
-      (pair_stops (NamesDiffer (given + 1)) refl tt tt tt
-      (subst held (sym second.current) (λ told. ap first_names (pair.pair_is told)))
-      (λ told.
-      front_behind state a b c p q kept check given before f first told
-      ∙ ap (meeting_after check n f) (second.record_is (p.told ∙ told))
-      ∙ cond-false (belong check (mates_in f r)) (Met (mates_in f r) ls ls)
-      (Stopped (NamesDiffer n)) apart
-      ∙ ap (λ k. Stopped (NamesDiffer k)) (sym (add-one given))))
+      grind (arith, common_steps, two_given, pair_stops, front_behind, add-one)
 
 pub returns-in_err-has_second-clause-count : goal.returns-in_err-has_second-clause-count
 returns-in_err-has_second-clause-count g c =
@@ -453,19 +342,4 @@ returns-then-not-has_second-clause-fault g c =
 
 pub returns-in_err-lengths-clause-fault : goal.returns-in_err-lengths-clause-fault
 returns-in_err-lengths-clause-fault g c =
-    let f = c.next_into.new.copy in
-    let r = c.record-second.result in
-    let checked = c.in_err-lengths.ensures in
-    let one : c.next_into.result ≡ Ok true = grind (arith, common_steps) in
-    let two : c.read_record.result ≡ Ok true = grind (arith, common_steps) in
-    let first = c.next_into.ensures.found c.requires.ready.last one in
-    let second =
-    of_current _ r _ c.record-second.ensures.record (c.read_record.ensures.found two) in
-    let apart = of_titles c.args.check_names false f r _ _ c.title.ensures.title
-    c.title-2.ensures.title checked.names in
-    let p = err_from_is_err_and c.from_residual-in_err-lengths.result
-    c.from_residual-in_err-lengths.ensures.1 in
-    rw (p.1, p.2) (names_differ g.F.Feed.state _ _ _ c.next_into.ensures.count
-    c.read_record.ensures.count c.args.forward.now c.args.check_names c.args.given
-    (is_some c.args.names.now) f first
-    r _ checked.err second apart)
+    grind (arith, common_steps, of_current, of_titles, err_from_is_err_and, names_differ)

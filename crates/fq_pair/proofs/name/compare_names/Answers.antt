@@ -1,4 +1,4 @@
-use Rattle.std.proofs.Common.{List, ℕ, length, sym, ap, ◌∙◌}
+use Rattle.std.proofs.Common.{arith, List, ℕ, sym, ap, ◌∙◌}
 use Rattle.std.specs.List.{before_first}
 use Rattle.std.specs.Str.{bytes_eq}
 use Rattle.fq_pair.specs.declared.side.Side.TheVariants.{Forward, Reverse}
@@ -23,15 +23,4 @@ returns-then-begins_like-clause-same c =
 
 -- if the titles begin alike, the lengths are those of the names in both titles
 pub returns-then-begins_like-clause-lengths : goal.returns-then-begins_like-clause-lengths
-returns-then-begins_like-clause-lengths c =
-    let like = c.begins_like.ensures in
-    let yes = c.if-begins_like.true in
-    let word = c.first_word-word.ensures in
-    let whole = ap (before_first is_gap) word ∙ word_of_word c.args.forward.now ∙ sym word in
-    let mate = word_beside c.args.reverse.now c.first_word-word.result.now whole (like.some yes)
-    (like.within yes) (like.like yes) (like.last yes) (like.end yes) in
-    same_lengths c.compare_alike.result.0 c.args.forward.now c.args.reverse.now
-    (c.compare_alike.ensures.forward ∙ ap (λ (w : List ℕ). length (without_end (mark_of Forward) w))
-    word)
-    (c.compare_alike.ensures.reverse ∙ ap (λ (w : List ℕ). length (without_end (mark_of Reverse) w))
-    mate)
+returns-then-begins_like-clause-lengths c = grind (arith, word_of_word, word_beside, same_lengths)

@@ -10,22 +10,8 @@ use Rattle.fq_pair.proofs.SourceLaws.{fault_after_record, fault_after_end, two_g
 use Rattle.fq_pair.proofs.pair_source.advance_mates.Goals as goal
 
 pub returns-in_ok-lengths-in-true-true-clause-found : goal.returns-in_ok-lengths-in-true-true-clause-found
-returns-in_ok-lengths-in-true-true-clause-found g c = λ lent _.
-    let f = c.record-first.result in
-    let r = c.record-second.result in
-    let first = c.record-first.ensures.record in
-    let second = c.record-second.ensures.record in
-    let checked = c.in_ok-lengths-in-true-true.ensures in
-    let kept = c.read_record.ensures.count in
-    let has_first : c.read_record.result ≡ Ok true = grind (arith, common_steps) in
-    let has_second : c.read_record-2.result ≡ Ok true = grind (arith, common_steps) in
-    let one = of_current _ f _ first (c.read_record.ensures.found has_first) in
-    let two = of_current _ r _ second (c.read_record-2.ensures.found has_second) in
-    let together = of_titles c.args.check_names true f r _ _ c.title.ensures.title
-    c.title-in-true-true.ensures.title checked.names in
-    of_pair _ _ f r _ first second
-    (two_given g.F.Feed.state g.G.Feed.state _ _ _ _ c.args.check_names c.args.given
-    (is_some c.args.names.now) lent f r c.requires.encoding kept.encoding one two together)
+returns-in_ok-lengths-in-true-true-clause-found g c =
+    λ lent _. grind (arith, of_current, of_titles, of_pair, two_given)
 
 pub returns-in_err-has_second-clause-fault : goal.returns-in_err-has_second-clause-fault
 returns-in_err-has_second-clause-fault g c =

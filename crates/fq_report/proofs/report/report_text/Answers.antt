@@ -1,9 +1,8 @@
-use Rattle.std.proofs.Common.{List, ℕ, [], ◌∷◌, ◌++◌, ap, ◌∙◌, ◌≡◌, false, Option, Some, None, refl, Bool, true, if◌then◌else◌, ◌==◌, suc, map}
-use Rattle.serde_json.specs.Written.{compact_text, has_float, items_have_float}
-use Rattle.serde_json.specs.Data.{Data, null}
+use Rattle.std.proofs.Common.{arith, List, ℕ, [], ◌∷◌, ◌≡◌, false, Option, Some, None, refl, suc, map}
+use Rattle.serde_json.specs.Written.{has_float, items_have_float}
 use Rattle.serde_json.specs.View.{items_of}
 use Rattle.fq_report.specs.Facts.{facts_of, Facts}
-use Rattle.fq_report.specs.Values.{optional_text, count, list, fields}
+use Rattle.fq_report.specs.Values.{optional_text, count, fields}
 use Rattle.fq_pair.specs.Forms.{Form, TwoTexts, InterleavedText}
 use Rattle.fq_pair.specs.Inputs.{InputNames}
 use Rattle.fq_report.specs.Reports.{inputs_value, outputs_value, pairs_value, counts, length_value, rows_from, named_columns, positions_value, reads_value, removed_value, side_value, sides_value, done_value, step_value, steps_from, report_value}
@@ -34,26 +33,13 @@ pairs_no_float : (counts : Counts) → has_float (pairs_value counts) ≡ false
 unfolding pairs_value
 pairs_no_float counts = refl
 
-one_no_float : (b : Bool) (some other : Data) → has_float some ≡ false → has_float other ≡ false →
-    has_float (if b then some else other) ≡ false
-one_no_float true some other first second = first
-one_no_float false some other first second = second
-
 length_no_float : (reads bases : ℕ) → has_float (length_value reads bases) ≡ false
-length_no_float reads bases = one_no_float (reads == 0) null (count bases) refl refl
-
-row_no_float : (none : Bool) (row : Data) (rows : List Data) → has_float row ≡ false →
-    items_have_float (items_of rows) ≡ false
-    → items_have_float (items_of (if none then rows else row ∷ rows)) ≡ false
-row_no_float true row rows first rest = rest
-row_no_float false row rows first rest = rw first rest
+length_no_float reads bases = grind arith
 
 rows_no_float : (number : ℕ) (rows : List ℕ) →
     items_have_float (items_of (rows_from number rows)) ≡ false
 rows_no_float number [] = refl
-rows_no_float number (reads ∷ rows) =
-    row_no_float (reads == 0) (list (count number ∷ count reads ∷ [])) (rows_from (suc number) rows)
-    refl (rows_no_float (suc number) rows)
+rows_no_float number (reads ∷ rows) = grind (arith, rows_no_float (suc number) rows)
 
 numbers_no_float : (ns : List ℕ) → items_have_float (items_of (map count ns)) ≡ false
 numbers_no_float [] = refl
@@ -70,28 +56,11 @@ positions_no_float columns = lists_no_float (named_columns columns)
 
 reads_no_float : (t : ReadsTally) (columns : Columns) → has_float (reads_value t columns) ≡ false
 unfolding reads_value
-reads_no_float t columns =
-    rw (
-      rows_no_float 0 t.gc_percents,
-      rows_no_float 0 t.lengths,
-      rows_no_float 0 t.mean_scores,
-      length_no_float t.reads t.longest,
-      length_no_float t.reads t.shortest,
-      positions_no_float
-          columns,
-    ) refl
+reads_no_float t columns = simp (rows_no_float, length_no_float, positions_no_float)
 
 side_no_float : (t : SideTally) → has_float (side_value t) ≡ false
 unfolding side_value removed_value
-side_no_float t =
-    rw (
-      reads_no_float t.before t.positions.before,
-      reads_no_float t.paired t.positions.paired,
-      rows_no_float 0 t.removed_behind,
-      rows_no_float 0 t.removed_front,
-      reads_no_float t.unpaired
-          t.positions.unpaired,
-    ) refl
+side_no_float t = simp (rows_no_float, reads_no_float)
 
 sides_no_float : (t : Tally) → has_float (sides_value t) ≡ false
 unfolding sides_value
@@ -112,21 +81,15 @@ steps_no_float number (word ∷ words) t = rw (step_no_float number word t)
 report_no_float : (f : Facts) → has_float (report_value f) ≡ false
 unfolding report_value
 report_no_float f =
-    rw (
-      text_no_float f.fault,
-      inputs_no_float f.inputs f.inputs.form,
-      outputs_no_float f,
-      pairs_no_float
-          f.counts,
-      sides_no_float f.tally,
-      steps_no_float 0 f.steps f.tally,
-    ) refl
+    simp (
+      text_no_float,
+      inputs_no_float,
+      outputs_no_float,
+      pairs_no_float,
+      sides_no_float,
+      steps_no_float,
+    )
 
 -- the text is that of the value of the report, which has no float, and a line feed
 pub returns : goal.returns
-returns c =
-    let is = c.in_ok-value.ensures in
-    let text =
-    c.in_ok-text.ensures.text (ap has_float is ∙ report_no_float (facts_of c.args.report.now))
-    ∙ ap compact_text is in
-    c.in_ok-push_str.ensures.bytes ∙ ap (λ (bytes : List ℕ). bytes ++ 10 ∷ []) text
+returns c = let none = report_no_float (facts_of c.args.report.now) in grind (arith, none)

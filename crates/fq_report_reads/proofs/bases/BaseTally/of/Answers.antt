@@ -1,4 +1,4 @@
-use Rattle.std.proofs.Common.{◌≡◌, ◌-◌, length, take, drop, arith, ℕ, nat_le, count_by, List, [], ◌∷◌, refl, sym, ◌∙◌}
+use Rattle.std.proofs.Common.{◌≡◌, arith, ℕ, nat_le, count_by, List, [], ◌∷◌, refl}
 use Rattle.std.proofs.lemmas.List.{length-take-le, length-drop}
 use Rattle.std.proofs.lemmas.List.Sums.{sum_by-cons}
 use Rattle.fq_text.specs.declared.encoding.Encoding.{Encoding}
@@ -23,19 +23,6 @@ counted e score least same (b ∷ others) =
 -- the counts are those of the bases of the part and of their scores
 pub returns : goal.returns
 returns c =
-    let e = c.args.encoding in
-    let seq = c.args.seq.now in
-    let part = take (c.args.to - c.args.from) (drop c.args.from c.args.qual.now) in
-    let order = c.requires.order in
-    let within = c.requires.within in
-    let long : c.args.to - c.args.from ≡ length (take (c.args.to - c.args.from)
-    (drop c.args.from seq)) =
-    sym (length-take-le (c.args.to - c.args.from) (drop c.args.from seq)
-    (omega (arith, length-drop c.args.from seq))) in
-    let low = c.count_of-counted.ensures.low ∙ counted e 20 _ c.least_byte-low.ensures.least part in
-    let high = c.count_of-counted.ensures.high
-    ∙ counted e 30 _ c.least_byte-high.ensures.least part in
-    let sum = c.score_sum-sum.ensures in
-    let gc = c.count_of-counted.ensures.gc in
-    let n = c.count_of-counted.ensures.n in
-    cc
+    let low = counted c.args.encoding 20 _ c.least_byte-low.ensures.least in
+    let high = counted c.args.encoding 30 _ c.least_byte-high.ensures.least in
+    grind (arith, low, high, length-take-le, length-drop)

@@ -1,5 +1,5 @@
-use Rattle.std.proofs.Common.{ap, ◌∙◌, arith}
-use Rattle.fq_report_reads.specs.Columns.{columns_from, columns_plus, first_rows}
+use Rattle.std.proofs.Common.{◌∙◌, arith}
+use Rattle.fq_report_reads.specs.Columns.{columns_from, first_rows}
 use Rattle.fq_report_reads.proofs.ColumnLemmas.{columns_swap, columns_none}
 use Rattle.fq_report_reads.proofs.LaneLemmas.{read_added, read_held, read_full, read_moved}
 use Rattle.fq_report_reads.proofs.positions.Positions.count.Goals as goal
@@ -7,11 +7,10 @@ use Rattle.fq_report_reads.proofs.positions.Positions.count.Goals as goal
 -- a read that ends after the last position of `few` is added to the totals
 pub returns-then-end-self : goal.returns-then-end-self
 returns-then-end-self c =
-    let totals = c.self.inside.totals in
     let few = first_rows c.self.inside.reached c.self.inside.narrow in
     let read = columns_from c.args.at c.args.encoding c.args.seq.now c.args.qual.now in
-    ap (λ x. columns_plus x few) c.count.ensures ∙ columns_swap totals read few
-    ∙ ap (λ x. columns_plus x read) c.self.view_is
+    let moved = columns_swap c.self.inside.totals read few in
+    cc
 
 -- when the counts of a few reads are moved, they are such as 254 reads can give
 pub empty-requires-clause-few : goal.empty-requires-clause-few

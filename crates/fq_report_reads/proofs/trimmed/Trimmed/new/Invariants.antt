@@ -1,8 +1,8 @@
-use Rattle.std.proofs.Common.{◌≡◌, ◌+◌, ◌-◌, ◌≤◌, ◌++◌, length, take, drop}
+use Rattle.std.proofs.Common.{◌≡◌, ◌-◌, ◌≤◌, length, take, drop}
 use Rattle.fq_trim.specs.Keeping.{scores, places, kept_of}
 use Rattle.fq_trim.specs.KeptPlaces.{kept_places}
 use Rattle.fq_report_reads.specs.Courses.{alone, whole, course, course_of}
-use Rattle.fq_report_reads.proofs.CourseLemmas.{cut}
+use Rattle.fq_report_reads.proofs.CourseLemmas.{cut, goes_on}
 use Rattle.fq_report_reads.proofs.trimmed.Trimmed.new.Given as goal
 
 -- the steps to come, on what is left, complete what all do to the whole
@@ -14,13 +14,8 @@ invariant-loop-number l = record {
   room : length l.shortened ≡ 64;
   kept : kept_of (drop l.number l.steps) (scores l.read.encoding l.read.qual)
       (places l.start (l.stop - l.start)) ≡ kept_places l.steps l.read;
-  front : l.start + (course_of l.number (drop l.number (alone l.steps))
-      (cut l.start (l.stop - l.start) (whole l.read))).front
-      ≡ (course (alone l.steps) l.read).front;
-  shortened : take l.count l.shortened ++ (course_of l.number (drop l.number (alone l.steps)) (cut
-      l.start (l.stop - l.start) (whole l.read))).shortened
-      ≡ (course (alone l.steps) l.read).shortened;
-  dropped : (course_of l.number (drop l.number (alone l.steps))
-      (cut l.start (l.stop - l.start) (whole l.read))).dropped
-      ≡ (course (alone l.steps) l.read).dropped;
+  course : goes_on l.start (take l.count l.shortened)
+      (course_of l.number (drop l.number (alone l.steps))
+      (cut l.start (l.stop - l.start) (whole l.read)))
+      ≡ course (alone l.steps) l.read;
 }
