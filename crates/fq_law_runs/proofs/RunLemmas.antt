@@ -1,5 +1,6 @@
 -- What a run leaves in its outlets is in step.
-use Rattle.std.proofs.Common.{◌≡◌, ◌<◌, ◌≤◌, ℕ, Some, None, Option, List, ◌++◌, refl, ap, sym, subst, ◌∙◌, arith}
+use Rattle.std.proofs.Common.{◌≡◌, ◌<◌, ◌≤◌, ℕ, Some, None, Option, List, ◌++◌, refl, sym, subst, arith}
+use Rattle.std.proofs.lemmas.Grind.{common_steps}
 use Rattle.fq_text.specs.Devices.{OutletState}
 use Rattle.fq_pair.specs.declared.out.Out.{Out}
 use Rattle.fq_pair.specs.declared.counts.Counts.{Counts}
@@ -20,14 +21,10 @@ has_taken : (old new : Option OutletState) (text : List ℕ) (failed : ℕ) → 
     ((outlet : OutletState) → old ≡ Some outlet → IsEmptyOutlet outlet) → (outlet : OutletState) →
     new ≡ Some outlet → outlet.taken ≡ text
 has_taken (Some old) (Some new) text failed took empty outlet is =
-    let e : new ≡ outlet = cc in
     let began = empty old refl in
-    ap (λ (o : OutletState). o.taken) (sym e) ∙ took.bytes began.tells
-    ∙ ap (λ (xs : List ℕ). xs ++ text) began.taken
+    grind (arith, common_steps)
 has_taken (Some old) None text failed took empty outlet is = absurd took
-has_taken None (Some new) text failed took empty outlet is = absurd took
-has_taken None None text failed took empty outlet is =
-    absurd (let h : None ≡ Some outlet = is in cc)
+has_taken None new text failed took empty outlet is = grind (arith, common_steps)
 
 have_taken : (old new : OutletStates) (texts : Out → List ℕ) (failed : Option Out) →
     OutletsTook old new texts failed → AreEmpty old → HaveTaken new texts
