@@ -1,6 +1,7 @@
 -- Two worked pairs, cut after the first one: their pairs and outputs under LEADING:3, computed from
 -- the definitions alone. Then what the premises are for.
 use Rattle.std.proofs.Common.{◌≡◌, ℕ, true, false, Some, None, List, [], ◌∷◌, ◌++◌, take, drop, codes, refl}
+use mathlib.Core.List.{IsPrefix}
 use Rattle.fq_text.specs.declared.encoding.Encoding.TheVariants.{Sanger}
 use Rattle.fq_text.specs.declared.fault.TextFault.TheVariants.{QualityLong}
 use Rattle.fq_text.specs.Lines.{is_whole}
@@ -90,6 +91,11 @@ second_dropped = refl
 
 both_dropped : (tally_of (alone steps) both).reverse.steps.dropped ≡ 1 ∷ []
 both_dropped = refl
+
+-- What a run that is killed can have left of them, also within a line.
+
+killed : IsPrefix (codes "@p1/1\nG") (texts_of steps both).forward_paired
+killed = (codes "T\n+\nII\n", refl)
 
 -- The fault of the rest ends the whole, and pairs are numbered on.
 
