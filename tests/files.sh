@@ -234,6 +234,23 @@ two_pairs
 run 0 '' PE <(cat f) <(cat r) fp fu rp ru LEADING:3
 expect_two_pairs
 
+row='killed'
+two_pairs
+printf 'old text' > fp
+mkfifo forward reverse
+"$program" PE --block 1 forward reverse fp fu rp ru LEADING:3 > out 2> err &
+pid=$!
+exec 3<> forward 4<> reverse
+cat f >&3
+head -n 4 r >&4
+for _ in {1..200}; do [ -s rp ] || sleep 0.05; done
+{ kill -KILL "$pid"; wait "$pid"; } 2> err
+exec 3>&- 4>&-
+same fp '@p1/1\nGT\n+\nII\n'
+same fu ''
+same rp '@p1/2\nTTTT\n+\nIIII\n'
+same out ''
+
 row='one file in which mates take turns'
 two_pairs
 run 0 '' IL --threads 2 --block 1 --trimlog log i fp fu rp ru LEADING:3

@@ -1,8 +1,6 @@
 -- The texts that are defined for pairs of the inputs are in step.
-use Rattle.std.proofs.Common.{◌≡◌, ℕ, suc, ◌+◌, Bool, true, false, Option, None, List, [], ◌∷◌, length, drop, map, filter, flat_map, take_while, refl, ap, sym, ◌∙◌}
-use Rattle.std.specs.Bool.{then_some}
+use Rattle.std.proofs.Common.{◌≡◌, ℕ, suc, ◌+◌, Bool, Option, None, List, [], ◌∷◌, length, map, filter, flat_map, take_while, refl, ap, sym, ◌∙◌, arith}
 use Rattle.std.specs.List.{All}
-use Rattle.std.proofs.lemmas.Bool.{cond-true}
 use Rattle.std.proofs.lemmas.List.{length-map}
 use Rattle.std.proofs.lemmas.List.Sums.{take_while-cons}
 use Rattle.std.proofs.lemmas.List.Folds.{flat_map-map}
@@ -10,7 +8,6 @@ use Rattle.std.proofs.lemmas.List.Elements.{All-head, All-tail, All-filter, All-
 use Rattle.fq_text.specs.declared.encoding.Encoding.{Encoding}
 use Rattle.fq_text.specs.Grammar.{Read}
 use Rattle.fq_text.specs.Records.{Records, records}
-use Rattle.fq_text.specs.Written.{as_written}
 use Rattle.fq_trim.specs.declared.step.Step.{Step}
 use Rattle.fq_pair.specs.declared.fault.InputFault.{InputFault}
 use Rattle.fq_pair.specs.Mates.{Mates}
@@ -20,6 +17,9 @@ use Rattle.fq_law_in_step.specs.Pieces.{trimmed, encoding_out}
 use Rattle.fq_law_in_step.specs.InStep.{IsReadIn, IsPairIn, forward_reads, reverse_reads, IsReadAgain, trimmed_pair, ArePairsAgain, TextsAreInStep}
 use Rattle.fq_law_in_step.proofs.ReadLemmas.{many_again}
 use Rattle.fq_law_in_step.proofs.CountLemmas.{counts_add_up}
+use Rattle.std.proofs.lemmas.Bool.{cases_Bool}
+use Rattle.std.proofs.Math.Seq.{drop-length}
+use Rattle.std.proofs.lemmas.Grind.{common_steps}
 
 -- Reads of one side.
 
@@ -28,17 +28,7 @@ gives : (steps : List Step) (e : Encoding) (reads : List Read) (count : ℕ) (te
     text ≡ flat_map (record_text steps) reads → length reads ≡ count →
     All (IsReadIn e) reads → IsReadAgain steps e reads count text
 gives steps e reads count text is size are plain =
-    let again : records (encoding_out steps e) text ≡ record {
-      reads =
-          map (trimmed steps) reads;
-      fault = None;
-    } =
-    ap (records (encoding_out steps e)) is ∙ many_again steps e reads are plain in
-    record {
-      again = again;
-      count_is = ap (λ (x : Records). length x.reads) again ∙ length-map reads (trimmed steps)
-          ∙ size;
-    }
+    grind (arith, common_steps, many_again, length-map)
 
 module _ (check : Bool) (steps : List Step) (e : Encoding) (ms : List Mates)
     (all : All (IsPairIn check e) ms) where
@@ -68,15 +58,10 @@ module _ (check : Bool) (steps : List Step) (e : Encoding) (ms : List Mates)
 
 -- Pairs.
 
-written_title : (b : Bool) (e : Encoding) (r : Read) →
-    (as_written (then_some b e) r).title ≡ r.title
-written_title true e r = refl
-written_title false e r = refl
-
 module _ (check : Bool) (steps : List Step) where
   -- trimming keeps titles, so names match as before
   still_belong : (m : Mates) → belong check (trimmed_pair steps m) ≡ belong check m
-  still_belong m = simp (written_title)
+  still_belong m = grind (arith, common_steps, cases_Bool)
 
   -- the mates of a pair are at one place in both texts
   mates_again : (ms : List Mates) → mates_of (map (trimmed steps) (forward_reads ms))
@@ -88,15 +73,9 @@ module _ (check : Bool) (steps : List Step) where
       take_while (belong check) (map (trimmed_pair steps) ms) ≡ map (trimmed_pair steps) ms
   all_taken e [] all = refl
   all_taken e (m ∷ ms) all =
-      take_while-cons (belong check) (trimmed_pair steps m) (map (trimmed_pair steps) ms)
-      ∙ cond-true (belong check (trimmed_pair steps m)) _ _ (still_belong m
-      ∙ (All-head (IsPairIn check e) m ms all).belong)
-      ∙ ap (λ (xs : List Mates). trimmed_pair steps m ∷ xs)
-      (all_taken e ms (All-tail (IsPairIn check e) m ms all))
-
-nothing_behind : {A : Type 0} (xs : List A) → drop (length xs) xs ≡ []
-nothing_behind [] = refl
-nothing_behind (x ∷ xs) = nothing_behind xs
+      let here = All-head (IsPairIn check e) m ms all in
+      let others = all_taken e ms (All-tail (IsPairIn check e) m ms all) in
+      grind (arith, common_steps, take_while-cons, still_belong)
 
 -- texts without a fault, with equally many records
 abbrev whole_text : List Read → Records
@@ -104,20 +83,7 @@ whole_text reads = record { reads = reads; fault = None }
 
 no_fault : (n k : ℕ) (fs rs : List Read) → length fs ≡ k → length rs ≡ k →
     fault_at n (behind k (whole_text fs)) (behind k (whole_text rs)) ≡ None
-no_fault n k fs rs f r =
-    ap (λ (xs : List Read). fault_at n (whole_text xs) (behind k (whole_text rs)))
-    (ap (λ (j : ℕ). drop j fs) (sym f) ∙ nothing_behind fs)
-    ∙ ap (λ (xs : List Read). fault_at n (whole_text []) (whole_text xs))
-    (ap (λ (j : ℕ). drop j rs) (sym r) ∙ nothing_behind rs)
-
--- the pairs of two such texts, if these mates belong together
-abbrev with_mates : List Read → List Read → List Mates → Pairs
-with_mates fs rs mates =
-    record {
-      mates = mates;
-      fault = fault_at (suc (0 + length mates))
-          (behind (length mates) (whole_text fs)) (behind (length mates) (whole_text rs));
-    }
+no_fault n k fs rs f r = grind (arith, common_steps, drop-length)
 
 paired_again : (check : Bool) (steps : List Step) (e : Encoding) (ms : List Mates) →
     All (IsPairIn check e) ms →
@@ -129,16 +95,9 @@ paired_again check steps e ms all =
     let rs = map (trimmed steps) (reverse_reads ms) in
     let tms = map (trimmed_pair steps) ms in
     let same : take_while (belong check) (mates_of fs rs) ≡ tms =
-    ap (take_while (belong check)) (mates_again check steps ms)
-    ∙ all_taken check steps e ms all in
-    let count = length-map ms (trimmed_pair steps) in
-    let forward : length fs ≡ length tms = length-map (forward_reads ms) (trimmed steps)
-    ∙ length-map ms (λ (m : Mates). m.forward) ∙ sym count in
-    let reverse : length rs ≡ length tms = length-map (reverse_reads ms) (trimmed steps)
-    ∙ length-map ms (λ (m : Mates). m.reverse) ∙ sym count in
-    ap (with_mates fs rs) same
-    ∙ ap (λ (fault : Option InputFault). record { mates = tms; fault = fault })
-    (no_fault (suc (0 + length tms)) (length tms) fs rs forward reverse)
+    ap (take_while (belong check)) (mates_again check steps ms) ∙ all_taken check steps e ms all in
+    rw same (ap (λ (fault : Option InputFault). record { mates = tms; fault = fault })
+    (no_fault (suc (0 + length tms)) (length tms) fs rs (simp length-map) (simp length-map)))
 
 -- two texts that give the reads of pairs give the pairs
 pairs_again : (check : Bool) (steps : List Step) (e : Encoding) (ms : List Mates)
@@ -148,14 +107,11 @@ pairs_again : (check : Bool) (steps : List Step) (e : Encoding) (ms : List Mates
     ArePairsAgain check steps e ms (length ms) forward reverse
 pairs_again check steps e ms forward reverse all f r plain_forward plain_reverse =
     let out = encoding_out steps e in
-    let again : pairs_of check 0 (records out forward) (records out reverse) ≡ record {
-      mates =
-          map (trimmed_pair steps) ms;
-      fault = None;
-    } =
+    let fs = whole_text (map (trimmed steps) (forward_reads ms)) in
+    let again : pairs_of check 0 (records out forward) (records out reverse)
+    ≡ record { mates = map (trimmed_pair steps) ms; fault = None } =
     ap (λ (x : Records). pairs_of check 0 x (records out reverse)) (f plain_forward).again
-    ∙ ap (λ (x : Records). pairs_of check 0 (whole_text (map (trimmed steps) (forward_reads ms))) x)
-    (r plain_reverse).again
+    ∙ ap (pairs_of check 0 fs) (r plain_reverse).again
     ∙ paired_again check steps e ms all in
     record {
       again = again;

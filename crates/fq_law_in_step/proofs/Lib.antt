@@ -4,6 +4,4 @@ pub mod TextLemmas
 pub mod CountLemmas
 pub mod InStepLemmas
 pub mod ReportLemmas
-pub mod EverythingLemmas
 pub mod WorkedExamples
-pub mod FourLineLemmas

@@ -1,19 +1,18 @@
 -- What is left of a read can be read again.
-use Rattle.std.proofs.Common.{◌≡◌, ℕ, zero, suc, ◌<◌, ◌≤◌, Bool, true, false, cond, List, [], ◌∷◌, ◌++◌, length, get_or, map, flat_map, refl, ap, sym, subst, ◌∙◌, arith, None}
+use Rattle.std.proofs.Common.{◌≡◌, ℕ, suc, ◌≤◌, Bool, true, false, List, [], ◌∷◌, ◌++◌, length, get_or, map, flat_map, refl, ap, sym, subst, ◌∙◌, arith, None}
 use Rattle.std.specs.Bool.{then_some}
 use Rattle.std.specs.List.{All, list_all}
 use Rattle.std.proofs.lemmas.Bool.{cases_Bool, and_parts, and_from, not_from_false, ne_eqb, both_ways}
 use Rattle.std.proofs.lemmas.List.{length-map}
-use Rattle.std.proofs.lemmas.List.Elements.{All-head, All-tail}
+use Rattle.std.proofs.lemmas.List.Elements.{All-get_or, All-head, All-tail}
+use Rattle.std.proofs.lemmas.List.Sums.{AllPass-from_list_all, list_all-from_AllPass}
 use Rattle.fq_text.specs.declared.encoding.Encoding.{Encoding}
-use Rattle.fq_text.specs.declared.encoding.Encoding.TheVariants.{Sanger}
-use Rattle.fq_text.specs.Scores.{is_scored}
 use Rattle.fq_text.specs.Grammar.{Read, IsLawful, begins_with}
 use Rattle.fq_text.specs.Records.{with_first, records}
-use Rattle.fq_text.specs.Written.{as_written, CanRecode}
+use Rattle.fq_text.specs.Written.{CanRecode}
 use Rattle.fq_text.proofs.WrittenLemmas.{reads_back}
 use Rattle.fq_trim.specs.declared.step.Step.{Step}
-use Rattle.fq_trim.specs.Keeping.{scores, select, keeps, kept_of, recodes}
+use Rattle.fq_trim.specs.Keeping.{select, keeps, kept_of, recodes}
 use Rattle.fq_trim.specs.KeptPlaces.{kept_places, bytes_at}
 use Rattle.fq_trim.proofs.PlaceLemmas.{length-places}
 use Rattle.fq_trim.proofs.KeptLemmas.{Below, kept_below, places_below}
@@ -24,18 +23,12 @@ use Rattle.std.proofs.lemmas.Grind.{common_steps}
 
 -- Bytes at some places.
 
-holds_at : (p : ℕ → Bool) (xs : List ℕ) (i : ℕ) → i < length xs → list_all p xs ≡ true →
-    p (get_or xs i 0) ≡ true
-holds_at p [] i lt all = absurd (omega arith)
-holds_at p (x ∷ xs) zero lt all = (and_parts _ _ all).0
-holds_at p (x ∷ xs) (suc i) lt all = holds_at p xs i (omega arith) (and_parts _ _ all).1
-
 -- what holds of all bytes holds of those at some places of them
 pub hold_at : (p : ℕ → Bool) (xs is : List ℕ) → Below (length xs) is → list_all p xs ≡ true →
     list_all p (bytes_at is xs) ≡ true
 hold_at p xs [] below all = refl
-hold_at p xs (i ∷ is) below all = and_from _ _ (holds_at p xs i below.0 all)
-    (hold_at p xs is below.1 all)
+hold_at p xs (i ∷ is) below all = and_from _ _ (All-get_or (λ x. p x ≡ true) xs i 0 below.0
+    (AllPass-from_list_all p xs all)) (hold_at p xs is below.1 all)
 
 few_selected : (test : ℕ → Bool) (j : ℕ) (ps : List ℕ) → length (select test j ps) ≤ length ps
 few_selected test j [] = omega arith
@@ -67,16 +60,6 @@ module _ (steps : List Step) (read : Read) where
   left_lawful encoding is plain =
       grind (arith, common_steps, kept_below_read, few_bases, hold_at, not_from_false, length-map)
 
-can_recode : (b : Bool) (e : Encoding) (qual : List ℕ) → list_all (is_scored e) qual ≡ true →
-    CanRecode (then_some b e) qual
-can_recode true e qual all = all
-can_recode false e qual all = tt
-
-written_encoding : (b : Bool) (r : Read) → (as_written (then_some b r.encoding) r).encoding ≡ cond b
-    Sanger r.encoding
-written_encoding true r = refl
-written_encoding false r = refl
-
 -- the record of one read is read again, then what follows it
 one_again : (steps : List Step) (encoding : Encoding) (read : Read) (text : List ℕ) →
     IsReadIn encoding read → IsPlain steps read →
@@ -85,13 +68,13 @@ one_again : (steps : List Step) (encoding : Encoding) (read : Read) (text : List
 one_again steps encoding read text is plain =
     let lawful = left_lawful steps read encoding is plain in
     let e : (trimmed steps read).encoding ≡ encoding_out steps encoding =
-    written_encoding (recodes steps) (left_of steps read)
-    ∙ ap (λ x. cond (recodes steps) Sanger x) is.same in
+    grind (arith, common_steps, cases_Bool) in
+    let scored : CanRecode (then_some (recodes steps) read.encoding) (left_of steps read).qual =
+    grind (arith, common_steps, cases_Bool) in
     subst (λ x. records x (record_text steps read ++ text)
     ≡ with_first (trimmed steps read) (records x text)) e
     (reads_back (left_of steps read) (then_some (recodes steps) read.encoding) text lawful
-    plain.title
-    (can_recode (recodes steps) read.encoding (left_of steps read).qual lawful.scores))
+    plain.title scored)
 
 -- the records of many reads are read again
 pub many_again : (steps : List Step) (encoding : Encoding) (reads : List Read) →
@@ -110,12 +93,6 @@ many_again steps encoding (read ∷ reads) are plain =
 
 -- Letters.
 
-all_letters : (xs : List ℕ) → All (λ base. is_letter base ≡ true) xs → list_all is_letter xs ≡ true
-all_letters [] all = refl
-all_letters (x ∷ xs) all =
-    and_from _ _ (All-head (λ base. is_letter base ≡ true) x xs all)
-    (all_letters xs (All-tail (λ base. is_letter base ≡ true) x xs all))
-
 -- a text of letters does not begin with a mark
 letter_first : (mark : ℕ) (at xs : List ℕ) → is_letter mark ≡ false →
     list_all is_letter (bytes_at at xs) ≡ true → begins_with mark (bytes_at at xs) ≡ false
@@ -129,7 +106,7 @@ letter_first mark (i ∷ is) xs other all =
 pub letters_are_plain : LettersArePlain
 letters_are_plain steps read same title letters =
     let all = hold_at is_letter read.seq (kept_places steps read) (kept_below_read steps read same)
-    (all_letters read.seq letters) in
+    (list_all-from_AllPass is_letter read.seq letters) in
     record {
       title = title;
       no_title = letter_first 64 (kept_places steps read) read.seq refl all;

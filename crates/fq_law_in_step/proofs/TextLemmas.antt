@@ -19,13 +19,6 @@ use Rattle.fq_law_in_step.specs.InStep.{IsReadIn, IsPairIn, InputsGivePairs}
 
 -- Reads.
 
-front_is_read : (e : Encoding) (ls : List (List ℕ)) (r : Read) (rest : List (List ℕ)) →
-    list_all clean ls ≡ true → front e ls ≡ Found r rest → IsReadIn e r
-front_is_read e ls r rest all is = record {
-  lawful = lawful_lines e ls r rest all is;
-  same = front_encoding e ls r rest is;
-}
-
 clean_rest : (e : Encoding) (ls : List (List ℕ)) (r : Read) (rest : List (List ℕ)) →
     list_all clean ls ≡ true → front e ls ≡ Found r rest → list_all clean rest ≡ true
 clean_rest e ls r rest all is =
@@ -40,7 +33,10 @@ reads_of_front : (n : ℕ) (e : Encoding) (ls : List (List ℕ)) → list_all cl
 reads_of_front n e ls all others End is = All-nil (IsReadIn e)
 reads_of_front n e ls all others (Faulty fault) is = All-nil (IsReadIn e)
 reads_of_front n e ls all others (Found r rest) is =
-    All-cons (IsReadIn e) r (records_within n e rest).reads (front_is_read e ls r rest all is)
+    All-cons (IsReadIn e) r (records_within n e rest).reads (record {
+      lawful = lawful_lines e ls r rest all is;
+      same = front_encoding e ls r rest is;
+    })
     (others rest (clean_rest e ls r rest all is))
 
 reads_within : (n : ℕ) (e : Encoding) (ls : List (List ℕ)) → list_all clean ls ≡ true →
@@ -86,21 +82,13 @@ interleaved_are_in e (f ∷ r ∷ rs) all =
 taken_are_pairs : (check : Bool) (e : Encoding) (ms : List Mates) → All (AreReadsIn e) ms →
     All (IsPairIn check e) (take_while (belong check) ms)
 taken_are_pairs check e [] all = All-nil (IsPairIn check e)
-taken_are_pairs check e (m ∷ ms) all = subst (All (IsPairIn check e))
-    (sym (take_while-cons (belong check) m ms)) (⊎_elim
-    (λ is.
+taken_are_pairs check e (m ∷ ms) all =
     let here = All-head (AreReadsIn e) m ms all in
-    subst (All (IsPairIn check e)) (sym (cond-true (belong check m)
-    (m ∷ take_while (belong check) ms) [] is))
-    (All-cons (IsPairIn check e) m (take_while (belong check) ms) (record {
-      forward =
-          here.forward;
-      reverse = here.reverse;
-      belong = is;
-    })
-    (taken_are_pairs check e ms (All-tail (AreReadsIn e) m ms all))))
-    (λ is. subst (All (IsPairIn check e)) (sym (cond-false (belong check m)
-    (m ∷ take_while (belong check) ms) [] is)) (All-nil (IsPairIn check e)))
+    let others = taken_are_pairs check e ms (All-tail (AreReadsIn e) m ms all) in
+    subst (All (IsPairIn check e)) (sym (take_while-cons (belong check) m ms)) (⊎_elim
+    (λ is. rw (cond-true (belong check m) _ _ is) (All-cons (IsPairIn check e) m _
+    (record { forward = here.forward; reverse = here.reverse; belong = is }) others))
+    (λ is. rw (cond-false (belong check m) _ _ is) (All-nil (IsPairIn check e)))
     (cases_Bool (belong check m)))
 
 -- inputs give pairs of valid reads, whose names match if names are checked

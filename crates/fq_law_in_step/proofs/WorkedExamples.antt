@@ -1,6 +1,7 @@
 -- Two worked pairs under LEADING:3, and what the laws say about them, computed from the definitions
 -- alone. Then the two kinds of reads that can't be read again.
 use Rattle.std.proofs.Common.{◌≡◌, ℕ, true, Some, None, List, [], ◌∷◌, codes, length, take, filter, map, refl}
+use Prim.Native.String.{String as Text}
 use Rattle.std.specs.List.{All}
 use Rattle.std.proofs.lemmas.List.Elements.{All-nil, All-cons}
 use Rattle.fq_text.specs.declared.encoding.Encoding.TheVariants.{Sanger, Illumina13}
@@ -13,10 +14,10 @@ use Rattle.fq_trim.specs.declared.step.Step.TheVariants.{Leading, HeadCrop, ToPh
 use Rattle.fq_trim.specs.KeptPlaces.{kept_places}
 use Rattle.fq_pair.specs.declared.side.Side.TheVariants.{Reverse}
 use Rattle.fq_pair.specs.declared.fault.InputFault.TheVariants.{MateMissing}
-use Rattle.fq_pair.specs.Mates.{Mates}
+use Rattle.fq_pair.specs.Mates.{Mates, mates_in}
 use Rattle.fq_pair.specs.Interleaved.{interleaved_pairs}
 use Rattle.fq_pair.specs.Pairing.{pairs, fault_following}
-use Rattle.fq_pair.specs.Outputs.{texts_of, counts_of, record_text, log_numbers, both_survive, forward_alone}
+use Rattle.fq_pair.specs.Outputs.{texts_of, record_text, log_numbers, both_survive, forward_alone}
 use Rattle.fq_report_reads.specs.declared.side.SideTally.{SideTally}
 use Rattle.fq_report_reads.specs.Courses.{alone}
 use Rattle.fq_report_pairs.specs.Tallies.{tally_of}
@@ -26,11 +27,14 @@ use Rattle.fq_law_in_step.specs.Everything.{alternating}
 use Rattle.fq_law_in_step.specs.Reports.{dropped_by}
 use Rattle.fq_law_in_step.specs.ReportLists.{logged}
 
-abbrev steps : List Step
+-- one step
+abbrev pub steps : List Step
 steps = Leading 3 ∷ []
 
-abbrev read : List ℕ → List ℕ → List ℕ → Read
-read title seq qual = record { encoding = Sanger; title = title; seq = seq; qual = qual }
+-- a read in Sanger's encoding, by its title, its bases and its quality
+abbrev pub read : Text → Text → Text → Read
+read title seq qual =
+    record { encoding = Sanger; title = codes title; seq = codes seq; qual = codes qual }
 
 -- The inputs.
 
@@ -44,18 +48,10 @@ abbrev interleaved : List ℕ
 interleaved = codes
     "@p1/1\nACGT\n+\n#!II\n@p1/2\nTTTT\n+\nIIII\n@p2/1\nGGCC\n+\nIIII\n@p2/2\nAAAA\n+\n!!!\"\n"
 
-abbrev both : List Mates
-both = record {
-  forward = read (codes "p1/1") (codes "ACGT") (codes "#!II");
-  reverse =
-      read (codes "p1/2") (codes "TTTT") (codes "IIII");
-}
-    ∷ record {
-      forward = read (codes "p2/1") (codes "GGCC") (codes "IIII");
-      reverse =
-          read (codes "p2/2") (codes "AAAA") (codes "!!!\"");
-    }
-    ∷ []
+-- both pairs
+abbrev pub both : List Mates
+both = mates_in (read "p1/1" "ACGT" "#!II") (read "p1/2" "TTTT" "IIII")
+    ∷ mates_in (read "p2/1" "GGCC" "IIII") (read "p2/2" "AAAA" "!!!\"") ∷ []
 
 two_pairs : pairs true Sanger 0 forward reverse ≡ record { mates = both; fault = None }
 two_pairs = refl
@@ -82,17 +78,14 @@ one_pair = refl
 
 -- The outputs.
 
-forward_paired : (texts_of steps both).forward_paired ≡ codes "@p1/1\nGT\n+\nII\n"
-forward_paired = refl
-
-forward_unpaired : (texts_of steps both).forward_unpaired ≡ codes "@p2/1\nGGCC\n+\nIIII\n"
-forward_unpaired = refl
-
-reverse_paired : (texts_of steps both).reverse_paired ≡ codes "@p1/2\nTTTT\n+\nIIII\n"
-reverse_paired = refl
-
-reverse_unpaired : (texts_of steps both).reverse_unpaired ≡ []
-reverse_unpaired = refl
+outputs : texts_of steps both ≡ record (texts_of steps both) {
+  forward_paired = codes "@p1/1\nGT\n+\nII\n";
+  forward_unpaired = codes "@p2/1\nGGCC\n+\nIIII\n";
+  reverse_paired = codes "@p1/2\nTTTT\n+\nIIII\n";
+  reverse_unpaired = [];
+  counts = record { pairs = 2; both = 1; forward_only = 1; reverse_only = 0; dropped = 0 };
+}
+outputs = refl
 
 -- the numbers of a read's log line
 abbrev numbers : Read → List ℕ
@@ -104,63 +97,43 @@ forward_log = refl
 reverse_log : map numbers (reverse_reads both) ≡ (4 ∷ 0 ∷ 4 ∷ 0 ∷ []) ∷ (0 ∷ 0 ∷ 0 ∷ 0 ∷ []) ∷ []
 reverse_log = refl
 
-counts : counts_of steps both ≡ record {
-  pairs = 2;
-  both = 1;
-  forward_only = 1;
-  reverse_only =
-      0;
-  dropped = 0;
-}
-counts = refl
-
 -- Outputs that are read again.
 
 -- One pair is read, because both mates survive in one pair. The forward mate has lost its first two
 -- bases; the reverse mate is whole.
 in_step : pairs true Sanger 0 (codes "@p1/1\nGT\n+\nII\n") (codes "@p1/2\nTTTT\n+\nIIII\n")
     ≡ record {
-      mates = record {
-        forward = read (codes "p1/1") (codes "GT") (codes "II");
-        reverse =
-            read (codes "p1/2") (codes "TTTT") (codes "IIII");
-      } ∷ [];
+      mates = mates_in (read "p1/1" "GT" "II") (read "p1/2" "TTTT" "IIII") ∷ [];
       fault = None;
     }
 in_step = refl
 
-alone_again : records Sanger (codes "@p2/1\nGGCC\n+\nIIII\n") ≡ record {
-  reads =
-      read (codes "p2/1") (codes "GGCC") (codes "IIII") ∷ [];
-  fault = None;
-}
+alone_again : records Sanger (codes "@p2/1\nGGCC\n+\nIIII\n")
+    ≡ record { reads = read "p2/1" "GGCC" "IIII" ∷ []; fault = None }
 alone_again = refl
 
 none_again : records Sanger [] ≡ record { reads = []; fault = None }
 none_again = refl
 
 -- the reads that are written are plain, as the laws require
+one_plain : (r : Read) → IsPlain steps r → All (IsPlain steps) (r ∷ [])
+one_plain r plain = All-cons (IsPlain steps) r [] plain (All-nil (IsPlain steps))
+
 plain_forward : All (IsPlain steps) (forward_reads (filter (both_survive steps) both))
-plain_forward = All-cons (IsPlain steps) (read (codes "p1/1") (codes "ACGT") (codes "#!II")) []
-    (record { title = refl; no_title = refl; no_plus = refl }) (All-nil (IsPlain steps))
+plain_forward =
+    one_plain (read "p1/1" "ACGT" "#!II") (record { title = refl; no_title = refl; no_plus = refl })
 
 plain_reverse : All (IsPlain steps) (reverse_reads (filter (both_survive steps) both))
-plain_reverse = All-cons (IsPlain steps) (read (codes "p1/2") (codes "TTTT") (codes "IIII")) []
-    (record { title = refl; no_title = refl; no_plus = refl }) (All-nil (IsPlain steps))
+plain_reverse =
+    one_plain (read "p1/2" "TTTT" "IIII") (record { title = refl; no_title = refl; no_plus = refl })
 
 plain_alone : All (IsPlain steps) (forward_reads (filter (forward_alone steps) both))
-plain_alone = All-cons (IsPlain steps) (read (codes "p2/1") (codes "GGCC") (codes "IIII")) []
-    (record { title = refl; no_title = refl; no_plus = refl }) (All-nil (IsPlain steps))
+plain_alone =
+    one_plain (read "p2/1" "GGCC" "IIII") (record { title = refl; no_title = refl; no_plus = refl })
 
 -- with TOPHRED33 an output is in Sanger's encoding
-recoded : map (trimmed (Leading 3 ∷ ToPhred33 ∷ [])) (record {
-  encoding = Illumina13;
-  title =
-      codes "i";
-  seq = codes "ACG";
-  qual = codes "AhD";
-} ∷ [])
-    ≡ read (codes "i") (codes "CG") (codes "I%") ∷ []
+recoded : trimmed (Leading 3 ∷ ToPhred33 ∷ []) (record (read "i" "ACG" "AhD") { encoding = Illumina13 })
+    ≡ read "i" "CG" "I%"
 recoded = refl
 
 -- Sums of the report: the step drops one of two reverse reads, and the other survives with its
@@ -209,21 +182,21 @@ removed_behind = refl
 
 -- a cut that leaves @ as the first base
 cut_to_a_mark : fault_following 1 (records Sanger (record_text (HeadCrop 1 ∷ [])
-    (read (codes "m") (codes "A@C") (codes "III")))) ≡ Some (BadSequence 1)
+    (read "m" "A@C" "III"))) ≡ Some (BadSequence 1)
 cut_to_a_mark = refl
 
 -- it has four lines
 four_lines_of_it : pieces (record_text (HeadCrop 1 ∷ [])
-    (read (codes "m") (codes "A@C") (codes "III")))
+    (read "m" "A@C" "III"))
     ≡ codes "@m" ∷ codes "@C" ∷ codes "+" ∷ codes "II" ∷ []
 four_lines_of_it = refl
 
 -- a title that ends in CR loses it
-title_with_cr : records Sanger (record_text steps (read (codes "r\r") (codes "AC") (codes "II")))
-    ≡ record { reads = read (codes "r") (codes "AC") (codes "II") ∷ []; fault = None }
+title_with_cr : records Sanger (record_text steps (read "r\r" "AC" "II"))
+    ≡ record { reads = read "r" "AC" "II" ∷ []; fault = None }
 title_with_cr = refl
 
 -- it is in the first of its lines
-four_lines_with_cr : pieces (record_text steps (read (codes "r\r") (codes "AC") (codes "II")))
+four_lines_with_cr : pieces (record_text steps (read "r\r" "AC" "II"))
     ≡ codes "@r\r" ∷ codes "AC" ∷ codes "+" ∷ codes "II" ∷ []
 four_lines_with_cr = refl

@@ -25,12 +25,14 @@ pub fn inputs_give_pairs()
 
 /// Each pair goes exactly one of four ways: both mates go to the paired outputs, the forward or the
 /// reverse mate goes alone to its unpaired output, or neither mate is written.
+#[tactic(auto, using(crate::proofs::CountLemmas::one_way))]
 pub fn pairs_go_one_way()
     ensures { PairsGoOneWay }
 {}
 
 /// If the pairs are split anywhere, the text for all of them is the text for the first part
 /// followed by the text for the rest.
+#[tactic(auto, using(fq_pair::proofs::OutputLaws::joined_assoc))]
 pub fn texts_are_joined()
     ensures texts { TextsAreJoined }
     ensures groups { JoinedInAnyGroups }

@@ -12,6 +12,7 @@ use Rattle.fq_pair.proofs.PairLaws.{records_of, from_pair_front, pairs_of-front,
 use Rattle.fq_pair.proofs.FrontLemmas.{front_more}
 use Rattle.fq_law_runs.specs.Parts.{pairs_then}
 use Rattle.fq_law_runs.proofs.FrontLemmas.{front_after}
+use Rattle.std.proofs.lemmas.Grind.{common_steps}
 
 module _ (check : Bool) (e : Encoding) (more_f more_r : List (List ℕ)) where
   abbrev pairs_at : ℕ → List (List ℕ) → List (List ℕ) → Pairs
@@ -36,24 +37,18 @@ module _ (check : Bool) (e : Encoding) (more_f more_r : List (List ℕ)) where
 
       meets : (A B : Front) → front e fs ≡ A → front e rs ≡ B →
           pair_front check e k fs rs ≡ meeting check (suc k) A B
-      meets A B a b = ap (λ (x : Front). meeting check (suc k) x (front e rs)) a
-          ∙ ap (meeting check (suc k) A) b
+      meets A B a b = grind (arith, common_steps)
 
       meets_more : (A B : Front) → front e (fs ++ more_f) ≡ A → front e (rs ++ more_r) ≡ B →
           pair_front check e k (fs ++ more_f) (rs ++ more_r) ≡ meeting check (suc k) A B
-      meets_more A B a b = ap (λ (x : Front). meeting check (suc k) x (front e (rs ++ more_r))) a
-          ∙ ap (meeting check (suc k) A) b
+      meets_more A B a b = grind (arith, common_steps)
 
       by_fronts : ((j : ℕ) (fls rls : List (List ℕ)) → length fls < n →
           (pairs_at j fls rls).fault ≡ None →
           pairs_at j (fls ++ more_f) (rls ++ more_r) ≡ with_more j (pairs_at j fls rls)) →
           (A B : Front) → front e fs ≡ A → front e rs ≡ B →
           pairs_at k (fs ++ more_f) (rs ++ more_r) ≡ with_more k (pairs_at k fs rs)
-      by_fronts again (Faulty x) End a b = absurd (stopped _ (meets (Faulty x) End a b))
-      by_fronts again (Faulty x) (Faulty y) a b =
-          absurd (stopped _ (meets (Faulty x) (Faulty y) a b))
-      by_fronts again (Faulty x) (Found r rls) a b =
-          absurd (stopped _ (meets (Faulty x) (Found r rls) a b))
+      by_fronts again (Faulty x) B a b = absurd (stopped _ (meets (Faulty x) B a b))
       by_fronts again End (Faulty y) a b = absurd (stopped _ (meets End (Faulty y) a b))
       by_fronts again End (Found r rls) a b = absurd (stopped _ (meets End (Found r rls) a b))
       by_fronts again (Found f fls) End a b = absurd (stopped _ (meets (Found f fls) End a b))

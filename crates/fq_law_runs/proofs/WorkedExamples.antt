@@ -1,12 +1,10 @@
 -- Two worked pairs, cut after the first one: their pairs and outputs under LEADING:3, computed from
 -- the definitions alone. Then what the premises are for.
-use Rattle.std.proofs.Common.{◌≡◌, ℕ, true, false, Some, None, List, [], ◌∷◌, ◌++◌, codes, refl}
+use Rattle.std.proofs.Common.{◌≡◌, ℕ, true, false, Some, None, List, [], ◌∷◌, ◌++◌, take, drop, codes, refl}
+use mathlib.Core.List.{IsPrefix}
 use Rattle.fq_text.specs.declared.encoding.Encoding.TheVariants.{Sanger}
 use Rattle.fq_text.specs.declared.fault.TextFault.TheVariants.{QualityLong}
-use Rattle.fq_text.specs.Grammar.{Read}
 use Rattle.fq_text.specs.Lines.{is_whole}
-use Rattle.fq_trim.specs.declared.step.Step.{Step}
-use Rattle.fq_trim.specs.declared.step.Step.TheVariants.{Leading}
 use Rattle.fq_pair.specs.declared.side.Side.TheVariants.{Forward, Reverse}
 use Rattle.fq_pair.specs.declared.fault.InputFault.TheVariants.{Text, MateMissing}
 use Rattle.fq_pair.specs.Mates.{Mates}
@@ -14,25 +12,14 @@ use Rattle.fq_pair.specs.Forms.{TwoTexts, InterleavedText, pairs_in}
 use Rattle.fq_pair.specs.Outputs.{texts_of}
 use Rattle.fq_report_reads.specs.Courses.{alone}
 use Rattle.fq_report_pairs.specs.Tallies.{tally_of}
+use Rattle.fq_law_in_step.proofs.WorkedExamples.{steps, both}
 use Rattle.fq_law_runs.specs.Parts.{IsPart}
 
-abbrev steps : List Step
-steps = Leading 3 ∷ []
-
-abbrev read : List ℕ → List ℕ → List ℕ → Read
-read title seq qual = record { encoding = Sanger; title = title; seq = seq; qual = qual }
-
 abbrev first : List Mates
-first = record {
-  forward = read (codes "p1/1") (codes "ACGT") (codes "#!II");
-  reverse = read (codes "p1/2") (codes "TTTT") (codes "IIII");
-} ∷ []
+first = take 1 both
 
 abbrev rest : List Mates
-rest = record {
-  forward = read (codes "p2/1") (codes "GGCC") (codes "IIII");
-  reverse = read (codes "p2/2") (codes "AAAA") (codes "!!!\"");
-} ∷ []
+rest = drop 1 both
 
 -- Two texts.
 
@@ -51,11 +38,8 @@ reverse_rest = codes "@p2/2\nAAAA\n+\n!!!\"\n"
 is_part : IsPart TwoTexts true Sanger 0 forward reverse
 is_part = record { forward_whole = refl; reverse_whole = refl; sound = refl }
 
-first_pair : pairs_in TwoTexts true Sanger 0 forward reverse ≡ record {
-  mates = first;
-  fault =
-      None;
-}
+first_pair : pairs_in TwoTexts true Sanger 0 forward reverse
+    ≡ record { mates = first; fault = None }
 first_pair = refl
 
 second_pair : pairs_in TwoTexts true Sanger 1 forward_rest reverse_rest
@@ -64,7 +48,7 @@ second_pair = refl
 
 both_pairs :
     pairs_in TwoTexts true Sanger 0 (forward ++ forward_rest) (reverse ++ reverse_rest)
-    ≡ record { mates = first ++ rest; fault = None }
+    ≡ record { mates = both; fault = None }
 both_pairs = refl
 
 -- An interleaved text.
@@ -81,10 +65,11 @@ is_interleaved_part = record { forward_whole = refl; reverse_whole = refl; sound
 both_interleaved_pairs :
     pairs_in InterleavedText true Sanger 0 (interleaved ++ interleaved_rest)
     (interleaved ++ interleaved_rest)
-    ≡ record { mates = first ++ rest; fault = None }
+    ≡ record { mates = both; fault = None }
 both_interleaved_pairs = refl
 
--- The outputs for forward reads, and the reverse reads that the step dropped.
+-- The outputs for forward reads, and the reverse reads that the step dropped: those of both pairs
+-- are in the examples of `fq_law_in_step`.
 
 first_paired : (texts_of steps first).forward_paired ≡ codes "@p1/1\nGT\n+\nII\n"
 first_paired = refl
@@ -92,18 +77,11 @@ first_paired = refl
 second_paired : (texts_of steps rest).forward_paired ≡ []
 second_paired = refl
 
-both_paired : (texts_of steps (first ++ rest)).forward_paired ≡ codes "@p1/1\nGT\n+\nII\n"
-both_paired = refl
-
 first_unpaired : (texts_of steps first).forward_unpaired ≡ []
 first_unpaired = refl
 
 second_unpaired : (texts_of steps rest).forward_unpaired ≡ codes "@p2/1\nGGCC\n+\nIIII\n"
 second_unpaired = refl
-
-both_unpaired : (texts_of steps (first ++ rest)).forward_unpaired
-    ≡ codes "@p2/1\nGGCC\n+\nIIII\n"
-both_unpaired = refl
 
 first_dropped : (tally_of (alone steps) first).reverse.steps.dropped ≡ []
 first_dropped = refl
@@ -111,8 +89,13 @@ first_dropped = refl
 second_dropped : (tally_of (alone steps) rest).reverse.steps.dropped ≡ 1 ∷ []
 second_dropped = refl
 
-both_dropped : (tally_of (alone steps) (first ++ rest)).reverse.steps.dropped ≡ 1 ∷ []
+both_dropped : (tally_of (alone steps) both).reverse.steps.dropped ≡ 1 ∷ []
 both_dropped = refl
+
+-- What a run that is killed can have left of them, also within a line.
+
+killed : IsPrefix (codes "@p1/1\nG") (texts_of steps both).forward_paired
+killed = (codes "T\n+\nII\n", refl)
 
 -- The fault of the rest ends the whole, and pairs are numbered on.
 

@@ -1,14 +1,21 @@
--- What a run leaves in its outlets, read again as FASTQ.
-use Rattle.std.specs.Prelude.{◌≡◌, ◌<◌, Some, List, ◌++◌, ℕ}
+-- What a run leaves in its outlets, read again as FASTQ, and what a run that is killed has left.
+use Rattle.std.specs.Prelude.{◌≡◌, ◌<◌, ◌⊎◌, Ok, Some, List, ◌++◌, ℕ}
+use mathlib.Core.List.{IsPrefix}
 use Rattle.fq_text.specs.Devices.{OutletState}
+use Rattle.fq_files.specs.Holding.{Holding}
 use Rattle.fq_pair.specs.declared.out.Out.{Out}
 use Rattle.fq_pair.specs.Mates.{Mates}
+use Rattle.fq_pair.specs.Outputs.{texts_of, text_of}
+use Rattle.fq_pair.specs.Pairing.{Pairs}
 use Rattle.fq_run_core.specs.Choices.{Choices}
 use Rattle.fq_run_core.specs.Devices.{OutletStates, outlet_at}
 use Rattle.fq_run_core.specs.Endings.{Run, IsTrimmed, EveryEnding, AreTold, AreFirst, all_pairs}
 use Rattle.fq_run_core.specs.Fates.{Fate, Unbroken, part_begun}
 use Rattle.fq_run_core.specs.Outcomes.{rank}
-use Rattle.fq_app_files.specs.Trimming.{AreEmpty}
+use Rattle.fq_app_files.specs.Judging.{settings_of}
+use Rattle.fq_app_files.specs.Leaving.{AreLeft, AreUntrimmed}
+use Rattle.fq_app_files.specs.Trimming.{AreEmpty, HasOwnName, pairs_of}
+use Rattle.fq_app_words.specs.Requests.{Asking}
 use Rattle.fq_law_in_step.specs.InStep.{AreInStep}
 
 -- the outlets have taken these texts
@@ -47,3 +54,28 @@ pub record RunIsInStepUpTo (c : Choices) (run : Run) : Type 0 where
 abbrev pub EndingsAreInStep : Type 0
 EndingsAreInStep = (c : Choices) (run : Run) →
     EveryEnding c run → AreTold run → AreEmpty run.outlets → RunIsInStepUpTo c run
+
+-- A run that is killed. No function returns then, so no clause speaks of that moment. But outlets
+-- only append, so each has taken a first part of what it would have taken at the end.
+
+-- each first part of these bytes is a first part of the text of all pairs
+abbrev pub BeginsText : Choices → Pairs → Out → List ℕ → Type 0
+BeginsText c all out bytes = (part : List ℕ) →
+    IsPrefix part bytes → IsPrefix part (text_of out (texts_of c.steps all.mates))
+
+-- so it is with what an outlet has taken, under the same conditions
+abbrev pub OutletsBeginTexts : Type 0
+OutletsBeginTexts = (c : Choices) (run : Run) →
+    EveryEnding c run → AreTold run → AreEmpty run.outlets →
+    (out : Out) (outlet : OutletState) → outlet_at out run.outlets_left ≡ Some outlet →
+    BeginsText c (all_pairs c run) out outlet.taken
+
+-- and with the file of each output that has a name of its own, if trimming had begun; otherwise
+-- each file holds what it held before, or nothing
+abbrev pub FilesBeginTexts : Type 0
+FilesBeginTexts = (a : Asking) (c : Choices) (old new : Holding) (forward reverse : List ℕ) →
+    settings_of a ≡ Ok c → old a.inputs.forward ≡ Some forward →
+    old a.inputs.reverse ≡ Some reverse → AreLeft a old new →
+    AreUntrimmed a old new ⊎ ((out : Out) (name : List ℕ) → HasOwnName a out name →
+    (bytes : List ℕ) × (new name ≡ Some bytes)
+    × BeginsText c (pairs_of c a.inputs.form forward reverse) out bytes)

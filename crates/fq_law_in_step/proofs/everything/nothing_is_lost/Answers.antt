@@ -1,18 +1,27 @@
-use Rattle.std.proofs.Common.{Bool, List, take_while, ◌≡◌, ◌+◌, ◌-◌, [], ◌∷◌, ◌++◌, length, drop, refl, ap, sym, subst, ◌∙◌, ⊎_elim, None, ℕ, append-nil, suc, ◌*◌, arith}
-use Rattle.std.proofs.lemmas.Bool.{cond-true, cond-false, cases_Bool}
+use Rattle.std.proofs.Common.{Bool, List, take_while, ◌≡◌, ◌+◌, [], ◌∷◌, ◌++◌, length, drop, refl, ap, ⊎_elim, Option, Some, None, ℕ, suc, ◌*◌, arith}
+use Rattle.std.proofs.lemmas.Bool.{cases_Bool}
 use Rattle.std.proofs.lemmas.List.Sums.{take_while-cons}
 use Rattle.fq_text.specs.Grammar.{Read}
 use Rattle.fq_pair.specs.Mates.{Mates, mates_in}
-use Rattle.fq_pair.specs.Pairing.{mates_of, belong, fault_at}
+use Rattle.fq_pair.specs.Pairing.{mates_of, belong, fault_at, first_fault, text_fault}
 use Rattle.fq_law_in_step.specs.InStep.{forward_reads, reverse_reads}
+use Rattle.std.specs.Option.{option_map}
+use Rattle.fq_text.specs.declared.fault.TextFault.{TextFault}
 use Rattle.fq_text.specs.Records.{Records, records}
 use Rattle.fq_text.specs.Sources.{numbered}
+use Rattle.fq_pair.specs.declared.side.Side.{Side}
 use Rattle.fq_pair.specs.declared.side.Side.TheVariants.{Forward, Reverse}
-use Rattle.fq_law_in_step.specs.Everything.{NothingIsLost, alternating, NothingIsLostOfOne}
+use Rattle.fq_pair.specs.declared.fault.InputFault.{InputFault}
+use Rattle.fq_law_in_step.specs.Everything.{alternating}
 use Rattle.fq_pair.specs.Interleaved.{interleaved_mates, interleaved_fault_at}
-use Rattle.fq_law_in_step.proofs.EverythingLemmas.{ends}
 use Rattle.fq_law_in_step.proofs.everything.nothing_is_lost.Goals as goal
 use Rattle.std.proofs.lemmas.Grind.{common_steps}
+
+-- if a text has no next record and there is no fault, the text has none
+ends : {A : Type 0} (side : Side) (h : A → TextFault) (o : Option A) (later : Option InputFault) →
+    first_fault (text_fault side [] (option_map h o)) later ≡ None → (o ≡ None) × (later ≡ None)
+ends side h (Some x) later is = absurd (cc is)
+ends side h None later is = (refl, is)
 
 module _ (check : Bool) where
   abbrev taken : List Read → List Read → List Mates
@@ -46,36 +55,9 @@ over n [] (y ∷ ys) f r is = absurd (cc (ends Forward (λ fault. numbered fault
 over n (x ∷ xs) [] f r is = absurd (cc (ends Reverse (λ fault. numbered fault n) r.fault _ is).1)
 over n (x ∷ xs) (y ∷ ys) f r is = absurd (cc is)
 
-no_more : (xs ys : List Read) → ys ≡ [] → (zs : List Read) → zs ≡ xs ++ ys → zs ≡ xs
-no_more xs ys none zs split = split ∙ ap (λ (more : List Read). xs ++ more) none ∙ append-nil xs
-
-same_text : (text : Records) (reads : List Read) → text.reads ≡ reads → text.fault ≡ None →
-    text ≡ record { reads = reads; fault = None }
-same_text text reads a b = ap (λ (xs : List Read). record text { reads = xs }) a
-    ∙ ap (λ fault. record { reads = reads; fault = fault }) b
-
--- the mates of two texts are the first records of each, and all of them if no fault ends the pairs
-nothing_is_lost : NothingIsLost
-nothing_is_lost check e forward reverse =
-    let f = records e forward in
-    let r = records e reverse in
-    let ms = taken check f.reads r.reads in
-    let k = length ms in
-    let a = forward_split check f.reads r.reads in
-    let b = reverse_split check f.reads r.reads in (
-      record {
-        first = (drop k f.reads, a);
-        whole = λ none. let o = over (suc (0 + k)) (drop k f.reads) (drop k r.reads) f r none in
-            same_text f (forward_reads ms) (no_more (forward_reads ms) (drop k f.reads) o.forward
-            f.reads a) o.forward_fault;
-      },
-      record {
-        first = (drop k r.reads, b);
-        whole = λ none. let o = over (suc (0 + k)) (drop k f.reads) (drop k r.reads) f r none in
-            same_text r (reverse_reads ms) (no_more (reverse_reads ms) (drop k r.reads) o.reverse
-            r.reads b) o.reverse_fault;
-      },
-    )
+same_text : (text : Records) (reads rest : List Read) → text.reads ≡ reads ++ rest → rest ≡ [] →
+    text.fault ≡ None → text ≡ record { reads = reads; fault = None }
+same_text text reads rest split none sound = grind (arith, common_steps)
 
 -- An interleaved text.
 
@@ -87,20 +69,14 @@ module _ (check : Bool) where
   split [] = refl
   split (f ∷ []) = refl
   split (f ∷ r ∷ xs) =
-      let m = mates_in f r in
-      let ms = interleaved_mates xs in
-      let P : List Mates → Type 0 = λ ys. f ∷ r ∷ xs ≡ alternating ys ++ drop (2 * length ys)
-      (f ∷ r ∷ xs) in
       let n = length (taken_of xs) in
-      let two : suc (suc (2 * n)) ≡ 2 * suc n = omega arith in
+      let two : 2 * suc n ≡ suc (suc (2 * n)) = omega arith in
+      let past : drop (2 * suc n) (f ∷ r ∷ xs) ≡ drop (2 * n) xs =
+      ap (λ (j : ℕ). drop j (f ∷ r ∷ xs)) two in
       ⊎_elim
-      (λ is. subst P (sym (take_while-cons (belong check) m ms
-      ∙ cond-true (belong check m) (m ∷ take_while (belong check) ms) [] is))
-      (ap (λ (ys : List Read). f ∷ r ∷ ys) (split xs)
-      ∙ ap (λ (j : ℕ). f ∷ r ∷ (alternating (taken_of xs) ++ drop j (f ∷ r ∷ xs))) two))
-      (λ is. subst P (sym (take_while-cons (belong check) m ms
-      ∙ cond-false (belong check m) (m ∷ take_while (belong check) ms) [] is)) refl)
-      (cases_Bool (belong check m))
+      (λ is. grind (arith, common_steps, take_while-cons, take_while, split xs))
+      (λ is. grind (arith, common_steps, take_while-cons, take_while))
+      (cases_Bool (belong check (mates_in f r)))
 
 -- without a fault nothing is left of an interleaved text
 record IsOverOne (xs : List Read) (t : Records) : Type 0 where
@@ -114,24 +90,36 @@ over_one n (x ∷ []) t is =
     absurd (cc (ends Reverse (λ fault. numbered fault (2 * n)) t.fault _ is).1)
 over_one n (x ∷ y ∷ xs) t is = absurd (cc is)
 
--- the mates of one text are its first records, and all of them if no fault ends the pairs
-nothing_is_lost_of_one : NothingIsLostOfOne
-nothing_is_lost_of_one check e text =
-    let t = records e text in
-    let ms = taken_of check t.reads in
-    let k = length ms in
-    let a = split check t.reads in
-    record {
-      first = (drop (2 * k) t.reads, a);
-      whole = λ none. let o = over_one (suc (0 + k)) (drop (2 * k) t.reads) t none in
-          same_text t (alternating ms) (no_more (alternating ms) (drop (2 * k) t.reads) o.reads
-          t.reads a) o.fault;
-    }
-
 -- no record of two texts is lost, and none is invented
 pub returns-clause-two_texts : goal.returns-clause-two_texts
-returns-clause-two_texts c = nothing_is_lost
+returns-clause-two_texts c check e forward reverse =
+    let f = records e forward in
+    let r = records e reverse in
+    let ms = taken check f.reads r.reads in
+    let k = length ms in
+    let a = forward_split check f.reads r.reads in
+    let b = reverse_split check f.reads r.reads in
+    let all = over (suc (0 + k)) (drop k f.reads) (drop k r.reads) f r in (
+      record {
+        first = (_, a);
+        whole = λ none.
+            same_text f (forward_reads ms) _ a (all none).forward (all none).forward_fault;
+      },
+      record {
+        first = (_, b);
+        whole = λ none.
+            same_text r (reverse_reads ms) _ b (all none).reverse (all none).reverse_fault;
+      },
+    )
 
 -- no record of an interleaved text is lost, and none is invented
 pub returns-clause-interleaved : goal.returns-clause-interleaved
-returns-clause-interleaved c = nothing_is_lost_of_one
+returns-clause-interleaved c check e text =
+    let t = records e text in
+    let ms = taken_of check t.reads in
+    let a = split check t.reads in
+    let all = over_one (suc (0 + length ms)) (drop (2 * length ms) t.reads) t in
+    record {
+      first = (_, a);
+      whole = λ none. same_text t (alternating ms) _ a (all none).reads (all none).fault;
+    }

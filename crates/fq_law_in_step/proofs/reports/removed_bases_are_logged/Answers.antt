@@ -1,26 +1,24 @@
-use Rattle.std.proofs.Common.{ℕ, List, get_or, ◌≡◌, ◌<◌, zero, suc, refl, arith, ◌+◌, ◌∙◌, [], ◌∷◌, length, ◌-◌, map, ap₂, sym, ap, ◌++◌, subst, true, not, Bool, false, cond, fold}
+use Rattle.std.proofs.Common.{ℕ, List, get_or, ◌≡◌, ◌<◌, zero, suc, refl, arith, ◌+◌, ◌∙◌, [], ◌∷◌, length, ◌-◌, map, ap₂, sym, ap, ◌++◌, subst, true, not, Bool, false, cond}
 use Rattle.std.proofs.lemmas.List.{get_or-map, length-map}
 use Rattle.std.specs.List.{All}
 use Rattle.std.proofs.lemmas.List.Elements.{All-head, All-tail}
-use Rattle.fq_trim.specs.Keeping.{places, kept, kept_of, scores}
+use Rattle.fq_trim.specs.Keeping.{places, kept, scores}
 use Rattle.fq_trim.specs.declared.step.Step.{Step}
 use Rattle.fq_report_reads.specs.Courses.{Part, Course, after, one_list, course_of, part_at, survives, alone, course}
 use Rattle.fq_text.specs.Scores.{value_of}
 use Rattle.fq_pair.specs.Outputs.{log_numbers}
 use Rattle.fq_trim.specs.KeptPlaces.{is_empty, kept_places}
 use Rattle.fq_text.specs.Grammar.{Read}
-use Rattle.fq_report_reads.specs.SideTallies.{behind_of, with_read}
+use Rattle.fq_report_reads.specs.SideTallies.{behind_of, no_side, with_read}
 use Rattle.fq_report_reads.specs.Rows.{counted, counted_if, counted_all}
 use Rattle.fq_report_reads.specs.declared.side.SideTally.{SideTally}
-use Rattle.fq_law_in_step.specs.ReportLists.{logged, BasesAreRemovedAsLogged}
+use Rattle.fq_law_in_step.specs.ReportLists.{logged, RemovedAsLogged}
 use Rattle.fq_pair.specs.Mates.{Mates}
-use Rattle.fq_report_pairs.specs.declared.tally.Tally.{Tally}
-use Rattle.fq_law_in_step.specs.InStep.{forward_reads, reverse_reads, IsPairIn}
-use Rattle.fq_text.specs.declared.encoding.Encoding.{Encoding}
-use Rattle.fq_report_pairs.specs.Tallies.{with_pair, no_tally}
+use Rattle.fq_trim.proofs.PlaceLemmas.{length-places}
 use Rattle.fq_trim.proofs.KeptLemmas.{Below, kept_below, places_below}
 use Rattle.fq_report_reads.proofs.LeftLaws.{at, kept_within, kept_append, alone_are_all, left_as_kept, survives_as_kept}
-use Rattle.fq_law_in_step.proofs.PieceLemmas.{spans}
+use Rattle.fq_law_in_step.proofs.PieceLemmas.{whole_span}
+use Rattle.fq_law_in_step.proofs.ReportLemmas.{Fits, side_of, both_sides}
 use Rattle.fq_trim.specs.KeptPlaces as of_steps
 use Rattle.fq_law_in_step.proofs.reports.removed_bases_are_logged.Goals as goal
 use Rattle.std.proofs.lemmas.Grind.{common_steps}
@@ -31,18 +29,13 @@ use Rattle.std.proofs.lemmas.Grind.{common_steps}
 abbrev first : List ℕ → ℕ
 first ps = get_or ps 0 0
 
-first_place : (a n : ℕ) → 0 < n → first (places a n) ≡ a
-first_place a zero some = absurd (omega arith)
-first_place a (suc n) some = refl
-
 place_at : (a n k : ℕ) → k < n → get_or (places a n) k 0 ≡ a + k
 place_at a zero k lt = absurd (omega arith)
 place_at a (suc n) zero lt = omega arith
 place_at a (suc n) (suc k) lt = place_at (suc a) n k (omega arith) ∙ omega arith
 
 all_kept : (q : List ℕ) → first (places 0 (length q)) ≡ 0
-all_kept [] = refl
-all_kept (x ∷ q) = refl
+all_kept q = grind (arith, common_steps)
 
 -- members at places, turned
 values_at : (f : ℕ → ℕ) (xs is : List ℕ) → Below (length xs) is →
@@ -52,37 +45,14 @@ values_at f xs (i ∷ is) below =
     ap₂ (λ n ns. n ∷ ns) (sym (get_or-map f xs i 0 0 below.0)) (values_at f xs is below.1)
 
 first_below : (n : ℕ) (ps : List ℕ) → 0 < length ps → Below n ps → first ps < n
-first_below n [] some below = absurd (omega arith)
-first_below n (p ∷ ps) some below = below.0
+first_below n ps some below = grind (arith, common_steps)
 
 first_of : (f : ℕ → ℕ) (ps : List ℕ) → 0 < length ps → first (map f ps) ≡ f (first ps)
-first_of f [] some = absurd (omega arith)
-first_of f (p ∷ ps) some = refl
-
--- steps keep consecutive places
-record IsRun (ps : List ℕ) : Type 0 where
-  start : ℕ
-  len : ℕ
-  are : ps ≡ places start len
-
-kept_run : (steps : List Step) (q : List ℕ) → IsRun (kept steps q)
-kept_run steps q =
-    let s = spans steps q 0 (length q) (omega arith) (omega arith) in
-    let all : length q ≡ length q - 0 = omega arith in
-    record {
-      start = s.start;
-      len = s.stop - s.start;
-      are = ap (λ (n : ℕ). kept_of steps q (places 0 n)) all ∙ s.places_are;
-    }
-
-length-places : (a n : ℕ) → length (places a n) ≡ n
-length-places a zero = refl
-length-places a (suc n) = ap suc (length-places (suc a) n)
+first_of f ps some = grind (arith, common_steps)
 
 front_after : (n : ℕ) (ps : List ℕ) (p : Part) (c : Course) → 0 < length ps →
     (after n ps p c).front ≡ first ps + c.front
-front_after n [] p c some = absurd (omega arith)
-front_after n (start ∷ others) p c some = refl
+front_after n ps p c some = grind (arith, common_steps)
 
 -- the bases that lists of steps remove before what is left are those before its first place
 front_in_turn : (lists : List (List Step)) (n : ℕ) (p : Part) →
@@ -113,35 +83,33 @@ front_in_turn (steps ∷ lists) n p some =
     (places_below (length ps) 0 (length (map (at q) ps)) (omega arith)) in
     let k = first K in
     let k_in : k < length ps = first_below (length ps) K some_K K_below in
-    let run = kept_run steps q in
-    let long : length ps ≡ run.len = ap length run.are ∙ length-places run.start run.len in
+    let run = whole_span steps q in
+    let len = run.stop - run.start in
+    let long : length ps ≡ len = ap length run.places_are ∙ length-places run.start len in
     let c = course_of (suc n) lists next in
     let later : c.front ≡ k =
     let some_next : 0 < length (kept rest (scores e next.qual)) =
     subst (λ (ns : List ℕ). 0 < length (kept rest ns)) (sym values) some_K in
     front_in_turn lists (suc n) next some_next
     ∙ ap (λ (ns : List ℕ). first (kept rest ns)) values in
-    let begins : first ps ≡ run.start = ap first run.are
-    ∙ first_place run.start run.len (omega arith) in
+    let begins : first ps ≡ run.start + 0 =
+    ap first run.places_are ∙ place_at run.start len 0 (omega arith) in
     let there : at ps k ≡ run.start + k =
-    ap (λ (xs : List ℕ). get_or xs k 0) run.are ∙ place_at run.start run.len k (omega arith) in
+    ap (λ (xs : List ℕ). get_or xs k 0) run.places_are ∙ place_at run.start len k (omega arith) in
     let sum : first ps + c.front ≡ at ps k = omega arith in
     front_after n ps p c (omega arith) ∙ sum ∙ sym (first_of (at ps) K some_K) ∙ ap first (sym all)
 
 -- The numbers of a log line.
 
 second_of : (n : ℕ) (ps : List ℕ) → 0 < length ps → get_or (log_numbers n ps) 1 0 ≡ first ps
-second_of n [] some = absurd (omega arith)
-second_of n (start ∷ others) some = refl
+second_of n ps some = grind (arith, common_steps)
 
 fourth_of : (n : ℕ) (ps : List ℕ) → 0 < length ps →
     get_or (log_numbers n ps) 3 0 ≡ n - first ps - length ps
-fourth_of n [] some = absurd (omega arith)
-fourth_of n (start ∷ others) some = refl
+fourth_of n ps some = grind (arith, common_steps)
 
 some_kept : (ps : List ℕ) → not (is_empty ps) ≡ true → 0 < length ps
-some_kept [] is = absurd cc
-some_kept (p ∷ ps) is = omega arith
+some_kept ps is = grind (arith, common_steps)
 
 module _ (steps : List Step) (read : Read) (same : length read.qual ≡ length read.seq)
     (survived : of_steps.survives steps read ≡ true) where
@@ -186,9 +154,6 @@ record IsCounted (steps : List Step) (reads : List Read) (old new : SideTally) :
   front : new.removed_front ≡ counted_all (logged 1 steps reads) old.removed_front
   behind : new.removed_behind ≡ counted_all (logged 3 steps reads) old.removed_behind
 
-none_counted : (steps : List Step) (t : SideTally) → IsCounted steps [] t t
-none_counted steps t = record { front = refl; behind = refl }
-
 one_more : (steps : List Step) (read : Read) (reads : List Read) (m : Bool) (t end : SideTally) →
     length read.qual ≡ length read.seq →
     IsCounted steps reads (with_read read (course (alone steps) read) m t) end →
@@ -196,36 +161,18 @@ one_more : (steps : List Step) (read : Read) (reads : List Read) (m : Bool) (t e
 one_more steps read reads m t end same rest =
     grind (arith, common_steps, survives_as_kept, counted_same, front_logged, behind_logged, picked)
 
-record AreCounted (steps : List Step) (ms : List Mates) (old new : Tally) : Type 0 where
-  forward : IsCounted steps (forward_reads ms) old.forward new.forward
-  reverse : IsCounted steps (reverse_reads ms) old.reverse new.reverse
-
-all_counted : (check : Bool) (e : Encoding) (steps : List Step) (ms : List Mates) (t : Tally) →
-    All (IsPairIn check e) ms → AreCounted steps ms t (fold (with_pair (alone steps)) t ms)
-all_counted check e steps [] t are =
-    record { forward = none_counted steps t.forward; reverse = none_counted steps t.reverse }
-all_counted check e steps (m ∷ ms) t are =
-    let pair = All-head (IsPairIn check e) m ms are in
-    let next = with_pair (alone steps) t m in
-    let end = fold (with_pair (alone steps)) next ms in
-    let rest = all_counted check e steps ms next (All-tail (IsPairIn check e) m ms are) in
-    record {
-      forward = one_more steps m.forward (forward_reads ms)
-          (survives (course (alone steps) m.reverse).left) t.forward end.forward
-          pair.forward.lawful.same_len rest.forward;
-      reverse = one_more steps m.reverse (reverse_reads ms)
-          (survives (course (alone steps) m.forward).left) t.reverse end.reverse
-          pair.reverse.lawful.same_len rest.reverse;
-    }
-
--- the bases removed at each end are counted as the log lines have them
-removed_as_logged : BasesAreRemovedAsLogged
-removed_as_logged check e steps ms are =
-    let counted = all_counted check e steps ms no_tally are in (
-      record { front = counted.forward.front; behind = counted.forward.behind },
-      record { front = counted.reverse.front; behind = counted.reverse.behind },
-    )
+all_counted : (steps : List Step) (mine other : Mates → Read) (ms : List Mates) (t : SideTally) →
+    All (Fits mine) ms → IsCounted steps (map mine ms) t (side_of mine other steps t ms)
+all_counted steps mine other [] t fit = record { front = refl; behind = refl }
+all_counted steps mine other (m ∷ ms) t fit =
+    let mate = survives (course (alone steps) (other m)).left in
+    one_more steps (mine m) (map mine ms) mate t _ (All-head (Fits mine) m ms fit)
+    (all_counted steps mine other ms (with_read (mine m) (course (alone steps) (mine m)) mate t)
+    (All-tail (Fits mine) m ms fit))
 
 -- the bases removed at each end are counted as the log lines have them
 pub returns : goal.returns
-returns c = removed_as_logged
+returns c check e steps ms are =
+    both_sides check e steps ms (λ mine other t. RemovedAsLogged steps (map mine ms) t)
+    (λ mine other fit others. let counted = all_counted steps mine other ms no_side fit in
+    record { front = counted.front; behind = counted.behind }) are

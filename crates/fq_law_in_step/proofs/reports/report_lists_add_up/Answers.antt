@@ -1,12 +1,12 @@
-use Rattle.std.proofs.Common.{◌≡◌, ◌≤◌, ℕ, ◌+◌, List, [], ◌∷◌, sum, arith, ◌++◌, length, take, drop, nat_le, ap, ◌∙◌, ⊎_elim, ◌<◌, min, map, refl, Bool, count_by, cond, false, max, true, not, ◌&&◌, fold}
-use Rattle.std.proofs.lemmas.Bool.{cond-true, cond-false, cases_Bool, cases_lt, le-leb, lt-leb, eqb-true}
+use Rattle.std.proofs.Common.{◌≡◌, ℕ, ◌+◌, List, [], ◌∷◌, sum, arith, ◌++◌, length, take, drop, nat_le, ap, ◌∙◌, min, map, refl, Bool, count_by, cond, false, max, true, not, ◌&&◌}
+use Rattle.std.proofs.lemmas.Bool.{cases_Bool, eqb-true}
 use Rattle.std.proofs.lemmas.List.{take-append-drop, length-append, length-take, length-map}
 use Rattle.std.proofs.lemmas.List.Sums.{sum_by-append, sum_by-cons}
 use Rattle.std.specs.List.{sum_by, All}
 use Rattle.std.proofs.lemmas.List.Elements.{All-head, All-tail}
 use Rattle.fq_trim.specs.Sums.{capped_sum}
 use Rattle.fq_report_reads.specs.Rows.{rows_plus, with_one, row_of}
-use Rattle.fq_law_in_step.specs.ReportLists.{AddUpTo, ListsAddUp, SideListsAddUp, AreAsLong, SideListsAreAsLong, ReportListsAddUp, ReportListsAreAsLong}
+use Rattle.fq_law_in_step.specs.ReportLists.{AddUpTo, ListsAddUp, SideListsAddUp, AreAsLong, SideListsAreAsLong}
 use Rattle.fq_report_reads.specs.Counting.{by_position, one_if}
 use Rattle.fq_report_reads.specs.Letters.{is_c, is_g, is_gc, is_n}
 use Rattle.fq_report_reads.specs.Courses.{Part, alone, course, whole, survives}
@@ -14,17 +14,13 @@ use Rattle.fq_trim.specs.Keeping.{scores}
 use Rattle.fq_report_reads.specs.declared.columns.Columns.{Columns}
 use Rattle.fq_report_reads.specs.declared.reads.ReadsTally.{ReadsTally}
 use Rattle.fq_report_reads.specs.Columns.{columns_of, columns_plus, no_columns}
-use Rattle.fq_report_reads.specs.SideTallies.{with_part, with_read, no_reads}
+use Rattle.fq_report_reads.specs.SideTallies.{with_part, with_read, no_reads, no_side}
 use Rattle.fq_report_reads.specs.SideColumns.{SideColumns, with_before, with_after}
 use Rattle.fq_report_reads.specs.declared.side.SideTally.{SideTally}
 use Rattle.fq_text.specs.Grammar.{Read}
 use Rattle.fq_trim.specs.declared.step.Step.{Step}
-use Rattle.fq_report_pairs.specs.declared.tally.Tally.{Tally}
-use Rattle.fq_text.specs.declared.encoding.Encoding.{Encoding}
 use Rattle.fq_pair.specs.Mates.{Mates}
-use Rattle.fq_report_pairs.specs.Tallies.{with_pair, no_tally}
-use Rattle.fq_law_in_step.specs.InStep.{IsPairIn}
-use Rattle.fq_law_in_step.proofs.ReportLemmas.{sum-cons, sum_one, sum_plus}
+use Rattle.fq_law_in_step.proofs.ReportLemmas.{sum-cons, sum_one, sum_plus, side_of, Fits, both_sides}
 use Rattle.fq_report_reads.proofs.RowLemmas.{length-rows_plus}
 use Rattle.fq_report_reads.proofs.ColumnLemmas.{OfEach, each_with_read, each_of_none, each_listed}
 use Rattle.fq_report_reads.proofs.LeftLaws.{left_as_kept}
@@ -54,10 +50,7 @@ sum_placed ns =
     let parts = sum_by-append id (take 10000 ns) (sum (drop 10000 ns) ∷ []) in
     let whole = sum_by-append id (take 10000 ns) (drop 10000 ns) in
     let same : sum (take 10000 ns ++ drop 10000 ns) ≡ sum ns = ap sum (take-append-drop 10000 ns) in
-    ⊎_elim
-    (λ is. ap sum (cond-true few ns cut is))
-    (λ is. ap sum (cond-false few ns cut is) ∙ omega arith)
-    (cases_Bool few)
+    grind (arith, common_steps, cases_Bool)
 
 -- a list by position has as many items as there are numbers, but at most 10,001
 length_placed : (ns : List ℕ) → length (by_position ns) ≡ min (length ns) 10001
@@ -66,12 +59,7 @@ length_placed ns =
     let cut = take 10000 ns ++ (sum (drop 10000 ns) ∷ []) in
     let front = length-take 10000 ns in
     let all = length-append (take 10000 ns) (sum (drop 10000 ns) ∷ []) in
-    ⊎_elim
-    (λ (long : 10000 < length ns).
-    ap length (cond-false few ns cut (lt-leb (length ns) 10000 long)) ∙ omega arith)
-    (λ (short : length ns ≤ 10000).
-    ap length (cond-true few ns cut (le-leb (length ns) 10000 short)) ∙ omega arith)
-    (cases_lt 10000 (length ns))
+    grind (arith, common_steps, cases_Bool)
 
 sum_map : (f : ℕ → ℕ) (xs : List ℕ) → sum (map f xs) ≡ sum_by f xs
 sum_map f [] = refl
@@ -118,10 +106,7 @@ sums_more part t cs up =
     let c = map (one_if is_c) part.seq in
     let g = map (one_if is_g) part.seq in
     let gc : sum (by_position c) + sum (by_position g) ≡ count_by is_gc part.seq =
-    let first = sum_placed c in
-    let second = sum_placed g in
-    let both = sum_of_gc part.seq in
-    omega arith in
+    grind (arith, common_steps, sum_placed, sum_of_gc) in
     record {
       lengths = one_counted t.reads (length part.seq) t.lengths up.lengths;
       bases = list_added t.bases.bases _ cs.bases (map (λ _. 1) part.seq) up.bases
@@ -204,58 +189,34 @@ read_more steps read m t same side =
     side_more (survives left) m (whole read) left t.before t.paired t.unpaired t.positions same
     (left_matches steps read same) side
 
--- Both sides.
-
-record Sides (t : Tally) : Type 0 where
-  forward : SideOf t.forward
-  reverse : SideOf t.reverse
-
-all_more : (check : Bool) (e : Encoding) (steps : List Step) (ms : List Mates) (t : Tally) →
-    All (IsPairIn check e) ms → Sides t → Sides (fold (with_pair (alone steps)) t ms)
-all_more check e steps [] t are sides = sides
-all_more check e steps (m ∷ ms) t are sides =
-    let pair = All-head (IsPairIn check e) m ms are in
-    all_more check e steps ms (with_pair (alone steps) t m) (All-tail (IsPairIn check e) m ms are)
-    (record {
-      forward = read_more steps m.forward (survives (course (alone steps) m.reverse).left) t.forward
-          pair.forward.lawful.same_len sides.forward;
-      reverse = read_more steps m.reverse (survives (course (alone steps) m.forward).left) t.reverse
-          pair.reverse.lawful.same_len sides.reverse;
-    })
+all_more : (steps : List Step) (mine other : Mates → Read) (ms : List Mates) (t : SideTally) →
+    All (Fits mine) ms → SideOf t → SideOf (side_of mine other steps t ms)
+all_more steps mine other [] t fit side = side
+all_more steps mine other (m ∷ ms) t fit side =
+    let mate = survives (course (alone steps) (other m)).left in
+    all_more steps mine other ms (with_read (mine m) (course (alone steps) (mine m)) mate t)
+    (All-tail (Fits mine) m ms fit)
+    (read_more steps (mine m) mate t (All-head (Fits mine) m ms fit) side)
 
 none : Both no_reads no_columns
 none = grind (arith, common_steps, each_of_none)
 
-no_reads_yet : Sides no_tally
-no_reads_yet = grind (arith, common_steps, none)
-
-side_sums : (t : SideTally) → SideOf t → SideListsAddUp t
-side_sums t side = grind (arith, common_steps)
+none_yet : SideOf no_side
+none_yet = grind (arith, common_steps, none)
 
 listed : (t : ReadsTally) (cs : Columns) → Lengths t.longest cs → AreAsLong t cs
 listed t cs are = each_listed (λ list. length list ≡ min t.longest 10001) cs are
 
-side_lengths : (t : SideTally) → SideOf t → SideListsAreAsLong t
-side_lengths t side = grind (arith, common_steps, listed)
-
--- each list of a report adds up to its total, if that is below the largest number of 64 bits
-lists_add_up : ReportListsAddUp
-lists_add_up check e steps ms are =
-    let sides = all_more check e steps ms no_tally are no_reads_yet in
-    let t = fold (with_pair (alone steps)) no_tally ms in
-    (side_sums t.forward sides.forward, side_sums t.reverse sides.reverse)
-
--- each list by position is as long as the longest read, but has at most 10,001 items
-lists_are_as_long : ReportListsAreAsLong
-lists_are_as_long check e steps ms are =
-    let sides = all_more check e steps ms no_tally are no_reads_yet in
-    let t = fold (with_pair (alone steps)) no_tally ms in
-    (side_lengths t.forward sides.forward, side_lengths t.reverse sides.reverse)
-
 -- each list of a report adds up to its total, if that is below the largest number of 64 bits
 pub returns-clause-sums : goal.returns-clause-sums
-returns-clause-sums c = lists_add_up
+returns-clause-sums c check e steps ms are =
+    both_sides check e steps ms (λ mine other t. SideListsAddUp t)
+    (λ mine other fit others. let side = all_more steps mine other ms no_side fit none_yet in
+    grind (arith, common_steps)) are
 
 -- each list by position is as long as the longest read, but has at most 10,001 items
 pub returns-clause-sizes : goal.returns-clause-sizes
-returns-clause-sizes c = lists_are_as_long
+returns-clause-sizes c check e steps ms are =
+    both_sides check e steps ms (λ mine other t. SideListsAreAsLong t)
+    (λ mine other fit others. let side = all_more steps mine other ms no_side fit none_yet in
+    grind (arith, common_steps, listed)) are

@@ -1,23 +1,18 @@
-use Rattle.std.proofs.Common.{◌≡◌, ℕ, zero, suc, List, ◌∷◌, get_or, map, refl, ap, [], sum, arith, ◌≤◌, length, ◌<◌, ◌+◌, false, ◌⊎◌, true, inl, ⊎_elim, not, ◌∙◌, ◌≢◌, subst, Bool, cond, ◌&&◌, filter, fold}
+use Rattle.std.proofs.Common.{◌≡◌, ℕ, zero, suc, List, ◌∷◌, get_or, map, refl, ap, [], sum, arith, ◌≤◌, length, ◌<◌, ◌+◌, false, ◌⊎◌, true, inl, inr, not, ◌∙◌, ◌≢◌, Bool, cond, ◌&&◌, filter}
 use Rattle.std.specs.List.{All}
+use Rattle.std.proofs.Math.Bool.{and_comm}
 use Rattle.std.proofs.lemmas.List.Elements.{All-head, All-tail}
 use Rattle.fq_trim.specs.Keeping.{places, kept, scores}
 use Rattle.fq_report_reads.specs.Courses.{Course, survives, Part, whole, after, course_of, part_at, alone, course}
 use Rattle.fq_trim.specs.KeptPlaces.{is_empty}
 use Rattle.fq_trim.specs.declared.step.Step.{Step}
 use Rattle.fq_text.specs.Grammar.{Read}
-use Rattle.fq_law_in_step.specs.Reports.{ReadsAreDroppedOnce, AddsUp, ReportsAddUp}
+use Rattle.fq_law_in_step.specs.Reports.{ReadsAreDroppedOnce, AddsUp, dropped_by}
 use Rattle.fq_report_reads.specs.declared.side.SideTally.{SideTally}
-use Rattle.fq_report_reads.specs.declared.reads.ReadsTally.{ReadsTally}
-use Rattle.fq_report_reads.specs.SideTallies.{with_part, with_read, no_side}
-use Rattle.fq_report_reads.specs.Rows.{with_one, row_of, counted_all}
-use Rattle.fq_report_pairs.specs.declared.tally.Tally.{Tally}
+use Rattle.fq_report_reads.specs.SideTallies.{with_read, no_side}
 use Rattle.fq_pair.specs.Mates.{Mates}
 use Rattle.fq_pair.specs.Outputs.{both_survive, forward_alone, reverse_alone}
-use Rattle.fq_report_pairs.specs.Tallies.{with_pair, no_tally}
-use Rattle.fq_text.specs.declared.encoding.Encoding.{Encoding}
-use Rattle.fq_law_in_step.specs.InStep.{IsPairIn}
-use Rattle.fq_law_in_step.proofs.ReportLemmas.{sum-cons, capped_small, sum_one}
+use Rattle.fq_law_in_step.proofs.ReportLemmas.{sum-cons, capped_small, sum_one, Fits, side_of, both_sides}
 use Rattle.fq_report_reads.proofs.LeftLaws.{not_empty, survives_as_kept}
 use Rattle.fq_report_reads.proofs.CourseLemmas.{alone_length}
 use Rattle.fq_law_in_step.proofs.CountLemmas.{bit, one_more}
@@ -30,7 +25,7 @@ use Rattle.std.proofs.lemmas.Grind.{common_steps}
 at_next : (x : ℕ) (xs : List ℕ) (a n : ℕ) → map (λ i. get_or (x ∷ xs) i 0) (places (suc a) n) ≡ map
     (λ i. get_or xs i 0) (places a n)
 at_next x xs a zero = refl
-at_next x xs a (suc n) = ap (λ (ns : List ℕ). get_or xs a 0 ∷ ns) (at_next x xs (suc a) n)
+at_next x xs a (suc n) = grind (arith, common_steps, at_next x xs (suc a) n)
 
 none_at : (a n : ℕ) → sum (map (λ i. get_or [] i 0) (places a n)) ≡ 0
 none_at a zero = refl
@@ -73,8 +68,7 @@ goes n (steps ∷ lists) part some =
 
 -- steps, each in a list of its own
 some_step : (steps : List Step) → steps ≢ [] → 0 < length steps
-some_step [] none = absurd (none refl)
-some_step (step ∷ steps) none = omega arith
+some_step steps none = grind (arith, common_steps)
 
 by_steps : (steps : List Step) (read : Read) → 0 < length steps →
     Goes 0 (length steps) (course (alone steps) read)
@@ -91,214 +85,55 @@ dropped_once steps read some same =
 
 -- One side.
 
--- `all` reads were counted: `both` survive with their mate, `only` survive alone, and `gone` were
--- dropped
-record Counts (steps : List Step) (t : SideTally) (all both only gone : ℕ) : Type 0 where
+-- `all` reads were counted: `both` survive with their mate, `only` survive alone, and the others
+-- were dropped
+record Counts (steps : List Step) (t : SideTally) (all both only : ℕ) : Type 0 where
   before : t.before.reads ≡ all
   paired : t.paired.reads ≡ both
   unpaired : t.unpaired.reads ≡ only
-  dropped : sum t.steps.dropped ≡ gone
   rows : length t.steps.dropped ≤ length steps
-  sum_is : gone + both + only ≡ all
+  sum_is : sum t.steps.dropped + both + only ≡ all
 
-reads_if : (b : Bool) (part : Part) (t : ReadsTally) → t.reads < 18446744073709551615 →
-    (cond b (with_part part t) t).reads ≡ bit b + t.reads
-reads_if true part t few = let one = capped_small t.reads 1 (omega arith) in omega arith
-reads_if false part t few = omega arith
+one_counted : (steps : List Step) (t : SideTally) (a b o : ℕ) (read : Read) (c : Course)
+    (mate : Bool) → Counts steps t a b o → Goes 0 (length steps) c → a < 18446744073709551615 →
+    Counts steps (with_read read c mate t) (1 + a) (bit (survives c.left && mate) + b)
+    (bit (survives c.left && not mate) + o)
+one_counted steps t a b o read c true counts (inl whole) few =
+    grind (arith, common_steps, capped_small)
+one_counted steps t a b o read c false counts (inl whole) few =
+    grind (arith, common_steps, capped_small)
+one_counted steps t a b o read c mate counts (inr by) few =
+    grind (arith, common_steps, capped_small, sum_one, length-with_one)
 
-one_way_of : (s mate : Bool) → bit (not s) + bit (s && mate) + bit (s && not mate) ≡ 1
-one_way_of true true = refl
-one_way_of true false = refl
-one_way_of false true = refl
-one_way_of false false = refl
+module _ (steps : List Step) (some : 0 < length steps) (mine other : Mates → Read)
+    (both only : Mates → Bool)
+    (both_is : (m : Mates) →
+    both m ≡ (of_steps.survives steps (mine m) && of_steps.survives steps (other m)))
+    (only_is : (m : Mates) →
+    only m ≡ (of_steps.survives steps (mine m) && not (of_steps.survives steps (other m)))) where
+  all_counted : (ms : List Mates) (t : SideTally) (a b o : ℕ) → All (Fits mine) ms →
+      All (Fits other) ms → a + length ms ≤ 18446744073709551615 → Counts steps t a b o →
+      Counts steps (side_of mine other steps t ms) (length ms + a) (length (filter both ms) + b)
+      (length (filter only ms) + o)
+  all_counted [] t a b o fit fit_mate few counts = grind (arith, common_steps)
+  all_counted (m ∷ ms) t a b o fit fit_mate few counts =
+      let c = course (alone steps) (mine m) in
+      let mate = survives (course (alone steps) (other m)).left in
+      let left = survives_as_kept steps (mine m) (All-head (Fits mine) m ms fit) in
+      let left_mate = survives_as_kept steps (other m) (All-head (Fits other) m ms fit_mate) in
+      let next = one_counted steps t a b o (mine m) c mate counts (by_steps steps (mine m) some)
+      (omega arith) in
+      let rest = all_counted ms (with_read (mine m) c mate t) (1 + a)
+      (bit (survives c.left && mate) + b) (bit (survives c.left && not mate) + o)
+      (All-tail (Fits mine) m ms fit) (All-tail (Fits other) m ms fit_mate) (omega arith) next in
+      grind (arith, common_steps, one_more, both_is m, only_is m)
 
-few_rows : (row by : ℕ) (xs : List ℕ) (n : ℕ) → row ≤ by → by < n → length xs ≤ n →
-    length (with_one row xs) ≤ n
-few_rows row by xs n least below few = let size = length-with_one row xs in omega arith
-
--- one more read is counted, with this course
-module _ (steps : List Step) (t : SideTally) (all both only gone : ℕ)
-    (counts : Counts steps t all both only gone) where
-  one_counted : (read : Read) (c : Course) (mate : Bool) → Goes 0 (length steps) c →
-      all < 18446744073709551615 →
-      Counts steps (with_read read c mate t) (1 + all)
-      (bit (survives c.left && mate) + both) (bit (survives c.left && not mate) + only)
-      (bit (not (survives c.left)) + gone)
-  one_counted read c mate goes few =
-      let s = survives c.left in
-      let old = t.steps.dropped in
-      let a = counts.before in
-      let b = counts.paired in
-      let o = counts.unpaired in
-      let g = counts.dropped in
-      let r = counts.rows in
-      let is = counts.sum_is in
-      let one = one_way_of s mate in
-      let first = capped_small t.before.reads 1 (omega arith) in
-      let paired = reads_if (s && mate) c.left t.paired (omega arith) in
-      let unpaired = reads_if (s && not mate) c.left t.unpaired (omega arith) in
-      record {
-        before = omega arith;
-        paired = omega arith;
-        unpaired = omega arith;
-        dropped = ⊎_elim
-            (λ whole.
-            let none = ap (λ (ns : List ℕ). sum (counted_all ns old)) whole.1 in
-            let kept = ap (λ (x : Bool). bit (not x)) whole.0 in
-            omega arith)
-            (λ by.
-            let one_row = ap (λ (ns : List ℕ). sum (counted_all ns old)) by.dropped in
-            let more = sum_one (row_of by.by) old (omega arith) in
-            let lost = ap (λ (x : Bool). bit (not x)) by.gone in
-            omega arith)
-            goes;
-        rows = ⊎_elim
-            (λ whole. let none = ap (λ (ns : List ℕ). length (counted_all ns old)) whole.1 in
-            omega arith)
-            (λ by.
-            let one_row = ap (λ (ns : List ℕ). length (counted_all ns old)) by.dropped in
-            let below = by.below in
-            let few = few_rows (row_of by.by) by.by old (length steps) (omega arith) (omega arith)
-            r in
-            omega arith)
-            goes;
-        sum_is = omega arith;
-      }
-
-  -- one more read is counted under these steps, if it is known whether its mate survives
-  read_counted : (read : Read) (mate with_mate : Bool) → 0 < length steps →
-      length read.qual ≡ length read.seq → all < 18446744073709551615 → mate ≡ with_mate →
-      let s = of_steps.survives steps read in
-      Counts steps (with_read read (course (alone steps) read) mate t) (1 + all)
-      (bit (s && with_mate) + both) (bit (s && not with_mate) + only) (bit (not s) + gone)
-  read_counted read mate with_mate some same few is =
-      let c = course (alone steps) read in
-      let raw = one_counted read c mate (by_steps steps read some) few in
-      let mated =
-      subst (λ (x : Bool). Counts steps (with_read read c mate t) (1 + all)
-      (bit (survives c.left && x) + both) (bit (survives c.left && not x) + only)
-      (bit (not (survives c.left)) + gone)) is raw in
-      subst (λ (s : Bool). Counts steps (with_read read c mate t) (1 + all)
-      (bit (s && with_mate) + both) (bit (s && not with_mate) + only) (bit (not s) + gone))
-      (survives_as_kept steps read same) mated
-
-counted_as : (steps : List Step) (t : SideTally) (a b o g a' b' o' g' : ℕ) →
-    Counts steps t a b o g → a ≡ a' → b ≡ b' → o ≡ o' → g ≡ g' → Counts steps t a' b' o' g'
-counted_as steps t a b o g a' b' o' g' c same_a same_b same_o same_g = grind (arith, common_steps)
-
--- Both sides.
-
-record BothSides (steps : List Step) (t : Tally) (all both forward_only reverse_only : ℕ) : Type 0
-  where
-    forward_gone : ℕ
-    reverse_gone : ℕ
-    forward : Counts steps t.forward all both forward_only forward_gone
-    reverse : Counts steps t.reverse all both reverse_only reverse_gone
-
-and_comm_bit : (f r : Bool) → bit (r && f) ≡ bit (f && r)
-and_comm_bit true true = refl
-and_comm_bit true false = refl
-and_comm_bit false true = refl
-and_comm_bit false false = refl
-
-pair_counted : (steps : List Step) (t : Tally) (a b f r : ℕ) (m : Mates) → 0 < length steps →
-    length m.forward.qual ≡ length m.forward.seq → length m.reverse.qual ≡ length m.reverse.seq →
-    a < 18446744073709551615 → BothSides steps t a b f r →
-    BothSides steps (with_pair (alone steps) t m) (1 + a) (bit (both_survive steps m) + b)
-    (bit (forward_alone steps m) + f) (bit (reverse_alone steps m) + r)
-pair_counted steps t a b f r m some same_f same_r few sides =
-    let lists = alone steps in
-    let sf = of_steps.survives steps m.forward in
-    let sr = of_steps.survives steps m.reverse in
-    let front = read_counted steps t.forward a b f sides.forward_gone sides.forward m.forward
-    (survives (course lists m.reverse).left) sr some same_f few
-    (survives_as_kept steps m.reverse same_r) in
-    let back = read_counted steps t.reverse a b r sides.reverse_gone sides.reverse m.reverse
-    (survives (course lists m.forward).left) sf some same_r few
-    (survives_as_kept steps m.forward same_f) in
-    let swap = and_comm_bit sf sr in
-    let swap_not = and_comm_bit (not sf) sr in
-    record {
-      forward_gone = bit (not sf) + sides.forward_gone;
-      reverse_gone = bit (not sr) + sides.reverse_gone;
-      forward = front;
-      reverse = counted_as steps (with_pair lists t m).reverse (1 + a) (bit (sr && sf) + b)
-          (bit (sr && not sf) + r) (bit (not sr) + sides.reverse_gone)
-          (1 + a) (bit (sf && sr) + b) (bit (not sf && sr) + r) (bit (not sr) + sides.reverse_gone)
-          back refl (omega arith) (omega arith) refl;
-    }
-
-all_counted : (check : Bool) (e : Encoding) (steps : List Step) (ms : List Mates) (t : Tally)
-    (a b f r : ℕ) → 0 < length steps →
-    All (IsPairIn check e) ms → a + length ms ≤ 18446744073709551615 → BothSides steps t a b f r →
-    BothSides steps (fold (with_pair (alone steps)) t ms) (length ms + a)
-    (length (filter (both_survive steps) ms) + b)
-    (length (filter (forward_alone steps) ms) + f) (length (filter (reverse_alone steps) ms) + r)
-all_counted check e steps [] t a b f r some are few sides = grind (arith, common_steps, counted_as)
-all_counted check e steps (m ∷ ms) t a b f r some are few sides =
-    let pair = All-head (IsPairIn check e) m ms are in
-    let next = pair_counted steps t a b f r m some pair.forward.lawful.same_len
-    pair.reverse.lawful.same_len (omega arith) sides in
-    let rest = all_counted check e steps ms (with_pair (alone steps) t m) (1 + a)
-    (bit (both_survive steps m) + b) (bit (forward_alone steps m) + f)
-    (bit (reverse_alone steps m) + r)
-    some (All-tail (IsPairIn check e) m ms are) (omega arith) next in
-    let both = one_more (both_survive steps) m ms in
-    let alone_f = one_more (forward_alone steps) m ms in
-    let alone_r = one_more (reverse_alone steps) m ms in
-    let end = fold (with_pair (alone steps)) (with_pair (alone steps) t m) ms in
-    record {
-      forward_gone = rest.forward_gone;
-      reverse_gone = rest.reverse_gone;
-      forward = counted_as steps end.forward _ _ _ rest.forward_gone
-          (length (m ∷ ms) + a) (length (filter (both_survive steps) (m ∷ ms)) + b)
-          (length (filter (forward_alone steps) (m ∷ ms)) + f) rest.forward_gone
-          rest.forward (omega arith) (omega arith) (omega arith) refl;
-      reverse = counted_as steps end.reverse _ _ _ rest.reverse_gone
-          (length (m ∷ ms) + a) (length (filter (both_survive steps) (m ∷ ms)) + b)
-          (length (filter (reverse_alone steps) (m ∷ ms)) + r) rest.reverse_gone
-          rest.reverse (omega arith) (omega arith) (omega arith) refl;
-    }
-
--- The whole report.
-
-adds_up : (steps : List Step) (t : SideTally) (a b o g all both only : ℕ) → Counts steps t a b o g →
+adds_up : (steps : List Step) (t : SideTally) (a b o all both only : ℕ) → Counts steps t a b o →
     a ≡ all → b ≡ both → o ≡ only → AddsUp steps t all both only
-adds_up steps t a b o g all both only c same_a same_b same_o =
-    let rows = sum_at t.steps.dropped (length steps) c.rows in
-    let before = c.before in
-    let paired = c.paired in
-    let unpaired = c.unpaired in
-    let dropped = c.dropped in
-    let is = c.sum_is in
-    record {
-      before = before ∙ same_a;
-      paired = paired ∙ same_b;
-      unpaired = unpaired ∙ same_o;
-      all = omega arith;
-    }
-
--- on each side the dropped reads and the survivors add up to the reads before trimming
-reports_add_up : ReportsAddUp
-reports_add_up check e steps ms are some few =
-    let none : Counts steps no_side 0 0 0 0 = record {
-      before = refl;
-      paired = refl;
-      unpaired = refl;
-      dropped = refl;
-      rows = omega arith;
-      sum_is = refl;
-    } in
-    let start : BothSides steps no_tally 0 0 0 0 =
-    record { forward_gone = 0; reverse_gone = 0; forward = none; reverse = none } in
-    let end = all_counted check e steps ms no_tally 0 0 0 0 (some_step steps some) are (omega arith)
-    start in
-    let t = fold (with_pair (alone steps)) no_tally ms in (
-      adds_up steps t.forward _ _ _ end.forward_gone _ _ _ end.forward (omega arith) (omega arith)
-          (omega arith),
-      adds_up steps t.reverse _ _ _ end.reverse_gone _ _ _ end.reverse (omega arith) (omega arith)
-          (omega arith),
-    )
+adds_up steps t a b o all both only c same_a same_b same_o =
+    let rows : sum (dropped_by steps t.steps) ≡ sum t.steps.dropped =
+    sum_at t.steps.dropped (length steps) c.rows in
+    grind (arith, common_steps)
 
 -- a read that survives is dropped by no step, and any other read by exactly one
 pub returns-clause-once : goal.returns-clause-once
@@ -306,4 +141,20 @@ returns-clause-once c = dropped_once
 
 -- on each side the dropped reads and the survivors add up to the reads before trimming
 pub returns-clause-sums : goal.returns-clause-sums
-returns-clause-sums c = reports_add_up
+returns-clause-sums c check e steps ms are some few =
+    let s = of_steps.survives steps in
+    let none : Counts steps no_side 0 0 0 =
+    record { before = refl; paired = refl; unpaired = refl; rows = omega arith; sum_is = refl } in
+    let sides = both_sides check e steps ms (λ mine other t. (both only : Mates → Bool) →
+    ((m : Mates) → both m ≡ (s (mine m) && s (other m))) →
+    ((m : Mates) → only m ≡ (s (mine m) && not (s (other m)))) →
+    AddsUp steps t (length ms) (length (filter both ms)) (length (filter only ms)))
+    (λ mine other fit fit_mate both only both_is only_is.
+    adds_up steps (side_of mine other steps no_side ms) _ _ _ _ _ _
+    (all_counted steps (some_step steps some) mine other both only both_is only_is ms no_side 0 0 0
+    fit fit_mate (omega arith) none) (omega arith) (omega arith) (omega arith)) are in (
+      sides.0 (both_survive steps) (forward_alone steps) (λ m. refl) (λ m. refl),
+      sides.1 (both_survive steps) (reverse_alone steps)
+          (λ m. and_comm (s m.forward) (s m.reverse))
+          (λ m. and_comm (not (s m.forward)) (s m.reverse)),
+    )
