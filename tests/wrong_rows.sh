@@ -1,7 +1,7 @@
 #!/usr/bin/env bash
 # Gives the program fq_test_rows rows with one mistake each: a wrong answer, an expected part that the
-# answer lacks, no expected answer, a key that nothing reads, a number too few, a text without a
-# name. Each must fail, with a line that says why.
+# answer lacks, no expected answer, a key that nothing reads, a number or a text too few, a text
+# without a name. Each must fail, with a line that says why.
 set -uo pipefail
 . "$(dirname "$0")/common.bash"
 

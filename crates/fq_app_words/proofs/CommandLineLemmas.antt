@@ -1,5 +1,5 @@
 -- What a command line with options, files and steps asks for.
-use Rattle.std.proofs.Common.{◌≡◌, ◌<◌, ◌≤◌, ◌+◌, ◌&&◌, ℕ, Bool, true, false, min, if◌then◌else◌, Option, Some, None, List, [], ◌∷◌, ◌++◌, length, map, flat_map, unwrap_or, codes, fold, refl, ap, ap₂, sym, subst, ◌∙◌, arith, append-nil, append_assoc, suc, is_some, All}
+use Rattle.std.proofs.Common.{◌≡◌, ◌<◌, ◌≤◌, ◌+◌, ◌&&◌, ℕ, Bool, true, false, min, if◌then◌else◌, Option, Some, None, List, [], ◌∷◌, ◌++◌, length, map, flat_map, unwrap_or, codes, fold, refl, ap, ap₂, sym, subst, ◌∙◌, arith, append-nil, append_assoc, suc, is_some, All, rules}
 use Rattle.std.specs.Prelude.{option_and_then, slice_get}
 use Rattle.std.specs.List.{AllByRecursion}
 use Rattle.std.specs.Option.{option_map_or}
@@ -7,13 +7,12 @@ use Rattle.std.specs.Str.{bytes_eq}
 use Rattle.std.proofs.lemmas.Bool.Decides.{nat_tests}
 use Rattle.std.proofs.lemmas.List.Elements.{All-head, All-tail, recursion_from_All}
 use Rattle.clap.specs.Kinds.{Kinds, or_else, range_kinds, values_kinds}
-use Rattle.clap.specs.Facts.{explicit_source}
 use Rattle.clap.specs.declared.builder.value_parser.ValueParser.TheVariants as parser
 use Rattle.clap.specs.Simple.{Shape, built, entered, filled, names_of, with_index}
 use Rattle.clap.specs.Walk.{Text, Row, Rule, Held, Walk, idle, positional, arg_by_id, arg_by_index, used_by_id, settled, pushed, to_positional, walk_from, nothing_held, finished, with_default, more_values}
 use Rattle.clap.specs.declared.parser.matches.ValueSource.TheVariants.{CommandLine}
 use Rattle.clap.specs.Lexer.{usize_max}
-use Rattle.clap.specs.Faults.{settle_fault, use_fault, positional_fault, stray_fault, defaults_fault, walk_fault, check_fault, entered_fault}
+use Rattle.clap.specs.Faults.{settle_fault, positional_fault, stray_fault, defaults_fault, walk_fault, check_fault, entered_fault}
 use Rattle.clap.proofs.OnLiterals.{clap_on_literals}
 use Rattle.fq_app_words.specs.Requests.{Asking, InputNames, two_files, interleaved_file}
 use Rattle.fq_app_words.specs.Words.{file_rule, steps_rule, pairs_app, interleaved_app, program_app, most, asked_in, asked_of, asking_in, pairs_asked, words_fault, AskedFor}
@@ -207,10 +206,6 @@ IsEntered command s = (program : Text) (words : List Text) →
 abbrev row_text : Option Row → Text
 row_text o = unwrap_or (option_and_then (λ r. slice_get r.values 0) o) []
 
--- the argument was used
-abbrev row_given : Option Row → Bool
-row_given o = option_map_or (λ r. explicit_source r.source) o false
-
 none_yet : (choices : List Choice) → AreNew [] choices
 none_yet [] = tt
 none_yet (choice ∷ choices) = (refl, none_yet choices)
@@ -241,11 +236,6 @@ module _ (command : Text) (others : List Rule) (choices : List Choice)
   found_after : (rows : List Row) (id : Text) → IsFound rows → look id chosen ≡ None →
       look id rows ≡ look id others_ended
   found_after rows id found none = found id ∙ look_last id chosen others_ended none
-
-  -- and was used, if it is there
-  given_after : (rows : List Row) (id : Text) → IsFound rows → look id chosen ≡ None →
-      row_given (look id rows) ≡ row_given (look id others_ended)
-  given_after rows id found none = ap row_given (found_after rows id found none)
 
   -- what has to be known of a command
   record Takes (asking : Asking) : Type 0 where
@@ -285,9 +275,11 @@ module _ (command : Text) (others : List Rule) (choices : List Choice)
         steps (plain_after files (step ∷ steps) plain) all_lead.holds
 
     steps_sound : settle_fault s.rules false end ≡ []
-    steps_sound =
-        ap (λ o. option_map_or (λ a. use_fault false a (step ∷ steps) end.rows) o []) takes.by_name
-        ∙ ap₂ or_else (in_range (length steps) (omega arith)) (all_texts (step ∷ steps))
+    steps_sound = rw (
+      takes.by_name,
+      in_range (length steps) (omega arith),
+      all_texts (step ∷ steps),
+    ) refl
 
     end_found : IsFound (finished s.rules end)
     end_found id =
@@ -427,34 +419,14 @@ module _ (choices : List Choice) (usual : All IsUsual choices) (outputs : Output
       let files = pairs_files f r outputs in
       let none = no_file choices in
       let found = found_after (codes "PE") pairs_others choices files step steps in
-      let given = given_after (codes "PE") pairs_others choices files step steps in
       record {
         entered = pairs_entered;
-        are_files = (
-          (refl, refl, refl, none.0, refl),
-          (
-            (refl, refl, refl, none.1, refl),
-            (
-              (refl, refl, refl, none.3, refl),
-              (
-                (refl, refl, refl, none.4, refl),
-                ((refl, refl, refl, none.5, refl), ((refl, refl, refl, none.6, refl), tt)),
-              ),
-            ),
-          ),
-        );
+        are_files = search rules;
         at_position = refl;
         by_name = refl;
         no_steps = look_last (codes "STEPS") (map choice_row choices) (file_rows files) none.7;
         defaults = refl;
-        checked = λ rows is. rw (
-          given rows (codes "F") is none.0,
-          given rows (codes "R") is none.1,
-          given rows (codes "FP") is none.3,
-          given rows (codes "FU") is none.4,
-          given rows (codes "RP") is none.5,
-          given rows (codes "RU") is none.6,
-        ) refl;
+        checked = λ rows is. search rules;
         asked = λ rows is. ap₂ (λ x y. Some (asking_in (two_files x y) rows))
             (ap row_text (found rows (codes "F") is none.0))
             (ap row_text (found rows (codes "R") is none.1))
@@ -471,33 +443,14 @@ module _ (choices : List Choice) (usual : All IsUsual choices) (outputs : Output
       let files = interleaved_files i outputs in
       let none = no_file choices in
       let found = found_after (codes "IL") interleaved_others choices files step steps in
-      let given = given_after (codes "IL") interleaved_others choices files step steps in
       record {
         entered = interleaved_entered;
-        are_files = (
-          (refl, refl, refl, none.2, refl),
-          (
-            (refl, refl, refl, none.3, refl),
-            (
-              (refl, refl, refl, none.4, refl),
-              (
-                (refl, refl, refl, none.5, refl),
-                ((refl, refl, refl, none.6, refl), tt),
-              ),
-            ),
-          ),
-        );
+        are_files = search rules;
         at_position = refl;
         by_name = refl;
         no_steps = look_last (codes "STEPS") (map choice_row choices) (file_rows files) none.7;
         defaults = refl;
-        checked = λ rows is. rw (
-          given rows (codes "I") is none.2,
-          given rows (codes "FP") is none.3,
-          given rows (codes "FU") is none.4,
-          given rows (codes "RP") is none.5,
-          given rows (codes "RU") is none.6,
-        ) refl;
+        checked = λ rows is. search rules;
         asked = λ rows is. ap (λ x. Some (asking_in (interleaved_file x) rows))
             (ap row_text (found rows (codes "I") is none.2))
             ∙ ap Some (same_asking (interleaved_file i) rows _ is

@@ -41,22 +41,6 @@ interleaved_asked : pairs_asked interleaved_words
 unfolding clap_on_literals program_app pairs_app interleaved_app asked pairs_asked asking_in
 interleaved_asked = refl
 
--- `fq PE --threads 2 --block 1 --trimlog log f r fp fu rp ru LEADING:3`
-abbrev two_files_words : List (List ℕ)
-two_files_words = codes "fq" ∷ codes "PE" ∷ codes "--threads" ∷ codes "2" ∷ codes "--block" ∷ codes
-    "1" ∷ codes "--trimlog" ∷ codes "log"
-    ∷ codes "f" ∷ codes "r" ∷ codes "fp" ∷ codes "fu" ∷ codes "rp" ∷ codes "ru" ∷ codes
-    "LEADING:3" ∷ []
-
-two_files_parse : words_fault two_files_words ≡ []
-unfolding clap_on_literals program_app pairs_app interleaved_app words_fault
-two_files_parse = refl
-
-two_files_asked : pairs_asked two_files_words
-    ≡ Some (asked 2 1 true false None (two_files (codes "f") (codes "r")))
-unfolding clap_on_literals program_app pairs_app interleaved_app asked pairs_asked asking_in
-two_files_asked = refl
-
 -- options after the steps
 abbrev late_words : List (List ℕ)
 late_words = codes "fq" ∷ codes "PE" ∷ codes "f" ∷ codes "r" ∷ codes "fp" ∷ codes "fu" ∷ codes
@@ -73,25 +57,6 @@ late_asked : pairs_asked late_words
     })
 unfolding clap_on_literals program_app pairs_app interleaved_app asked pairs_asked asking_in
 late_asked = refl
-
--- `fq PE FLAG f r fp fu rp ru LEADING:3`
-abbrev flag_words : List ℕ → List (List ℕ)
-flag_words flag = codes "fq" ∷ codes "PE" ∷ flag ∷ codes "f" ∷ codes "r" ∷ codes "fp" ∷ codes
-    "fu" ∷ codes "rp" ∷ codes "ru" ∷ codes "LEADING:3" ∷ []
-
--- what they ask for, with a wait for the disk and with a reason, or without
-abbrev flag_asked : Bool → Bool → Asking
-flag_asked sync explain = record (asked 4 1024 true sync None (two_files (codes "f") (codes "r")))
-    { log = None; explain = explain }
-
--- no reason is given, unless it is asked for
-unexplained_asked : pairs_asked (flag_words (codes "--sync")) ≡ Some (flag_asked true false)
-unfolding clap_on_literals program_app pairs_app interleaved_app asked pairs_asked asking_in
-unexplained_asked = refl
-
-explained_asked : pairs_asked (flag_words (codes "--explain")) ≡ Some (flag_asked false true)
-unfolding clap_on_literals program_app pairs_app interleaved_app asked pairs_asked asking_in
-explained_asked = refl
 
 -- too few files
 few_words : words_fault (codes "fq" ∷ codes "PE" ∷ codes "f" ∷ []) ≡ MissingRequiredArgument ∷ []

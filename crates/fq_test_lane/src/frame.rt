@@ -17,25 +17,14 @@ pub fn lane_of(alloc: Global, depth: usize) -> Result<(Tx<u64>, Rx<u64>), AllocE
     lane(alloc, depth)
 }
 
-/// Both ends of two such lanes with room for one item each.
-#[derive(Drop)]
-pub struct TwoLanes {
-    pub one_tx: Tx<u64>,
-    pub one_rx: Rx<u64>,
-    pub other_tx: Tx<u64>,
-    pub other_rx: Rx<u64>,
-}
+/// The ends of two lanes, for two threads: the sender of one, and the receiver of the other.
+pub type TwoLanes = ((Tx<u64>, Rx<u64>), (Tx<u64>, Rx<u64>));
 
 /// Makes two lanes with room for one item each.
 pub fn two_lanes(alloc: Global) -> Result<TwoLanes, AllocError> {
     let (one_tx, one_rx) = lane_of(alloc, 1)?;
     let (other_tx, other_rx) = lane_of(alloc, 1)?;
-    Ok(TwoLanes {
-        one_tx,
-        one_rx,
-        other_tx,
-        other_rx,
-    })
+    Ok(((one_tx, other_rx), (other_tx, one_rx)))
 }
 
 /// Whether there is room for the item, which is then sent.

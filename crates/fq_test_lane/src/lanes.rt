@@ -217,12 +217,7 @@ fn exchange(mut tx: Tx<u64>, rx: Rx<u64>) -> (Taken<u64>, Rx<u64>) {
 
 // Whether each of two threads gets the other's 1.
 fn cross<R: Threads + Wait + Copy + Send + 'static>(rt: R, lanes: TwoLanes) -> bool {
-    let TwoLanes {
-        one_tx,
-        one_rx,
-        other_tx,
-        other_rx,
-    } = lanes;
+    let ((one_tx, other_rx), (other_tx, one_rx)) = lanes;
     let ((one_taken, _other_rx), (other_taken, _one_rx)) = thread::join(
         &rt,
         move || exchange(one_tx, other_rx),

@@ -133,12 +133,7 @@ fn move_late(clock: &impl Clock, mut full_rx: Rx<u64>, mut empty_tx: Tx<u64>) {
 // Lets both ends wait: the sender of one lane, which is full, and the receiver of the other, which
 // is empty.
 fn wait_for_each_other<R: Threads + Wait + Clock + Copy + Send + 'static>(rt: R, lanes: TwoLanes) {
-    let TwoLanes {
-        one_tx,
-        one_rx,
-        other_tx,
-        other_rx,
-    } = lanes;
+    let ((one_tx, other_rx), (other_tx, one_rx)) = lanes;
     thread::join(
         &rt,
         move || wait_twice(&rt, one_tx, other_rx),
@@ -159,7 +154,7 @@ fn time_of_waiting<R: Threads + Wait + Clock + CpuClock + Copy + Send + 'static>
 #[test]
 fn an_end_that_waits_sleeps(rt: HostRuntime) -> Result<(), Fail> {
     let mut lanes = two_lanes(rt.alloc())?;
-    assert!(rt; accepts(&mut lanes.one_tx, 1));
+    assert!(rt; accepts(&mut lanes.0.0, 1));
     let used = time_of_waiting(rt, lanes)?;
     assert!(rt; used < Duration::from_millis(100), "{used:?} of 400 ms");
     Ok(())
@@ -257,12 +252,7 @@ fn answer<R: Wait + Clock>(rt: &R, mut there: Rx<u64>, mut back: Tx<u64>) {
 
 // How many numbers come back through the second lane.
 fn answered<R: Threads + Wait + Clock + Copy + Send + 'static>(rt: R, lanes: TwoLanes) -> u64 {
-    let TwoLanes {
-        one_tx,
-        one_rx,
-        other_tx,
-        other_rx,
-    } = lanes;
+    let ((one_tx, other_rx), (other_tx, one_rx)) = lanes;
     let (answered, ()) = thread::join(
         &rt,
         move || ask(&rt, one_tx, other_rx),

@@ -7,8 +7,6 @@
 //! correct, the program prints `Whole`, or, if the run did not end whole, its outcome and what
 //! became of its feeds. If memory is refused before the run, it prints that. Otherwise the exit
 //! status is 1.
-//!
-//! `do: judge` does so by the words of `way`. Answer: `whole`, whether the run ended whole.
 
 ghost use Rattle.std.specs.Prelude.{◌≡◌, None, false, [], IfSome};
 ghost use Rattle.fq_run.specs.Devices.{outlet_states, AreHealthy};
@@ -20,7 +18,6 @@ use fq_test_memory_run::{Left, MemoryRun, in_order};
 use fq_test_texts::{
     ELEVEN_INTERLEAVED, Front, SEVEN_FORWARD, SEVEN_REVERSE, SEVEN_STEPS, front_in_order,
 };
-use fq_test_worked::{Answers, Given};
 use fq_text::{Outlet, OutletFailed, ScriptOutlet};
 use fq_trim::Steps;
 use fq_work::OpenGate;
@@ -279,25 +276,5 @@ pub fn judge_words<R: Threads + Wait + Print + Copy + Send + 'static>(
 /// Prints that memory was refused before a run.
 pub fn refused<R: Print>(rt: &R) -> Result<()> {
     println!(rt; "Refused before the run")?;
-    Ok(())
-}
-
-/// Puts the answers to a `do: judge` row.
-pub fn answer<R: Threads + Wait + Copy + Send + 'static>(
-    rt: &R,
-    alloc: Global,
-    given: &Given<'_>,
-    answers: &mut Answers,
-) -> Result<()> {
-    given.allow(&["way"])?;
-    let mut way = SERIAL;
-    for word in given.text("way")?.split(' ') {
-        take_word(&mut way, word)?;
-    }
-    let ended = run_and_judge(alloc, rt, way)?;
-    answers.put_yes(
-        "whole",
-        ended.is_some_and(|ended| ended.outcome == whole(way).0),
-    )?;
     Ok(())
 }

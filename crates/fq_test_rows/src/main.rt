@@ -7,7 +7,6 @@
 #![tactic(auto)]
 
 mod call;
-mod files;
 mod judge;
 mod outcomes;
 mod run;
@@ -37,9 +36,7 @@ fn answer<R: Threads + Wait + Print + AllocGlobal + Files + Copy + Send + 'stati
     let mut answers = Answers::new(alloc);
     match given.text("do")? {
         "call" => call::answer(rt, alloc, given, &mut answers)?,
-        "files" => files::answer(alloc, given, &mut answers)?,
         "outcomes" => outcomes::answer(alloc, given, &mut answers)?,
-        "judge" => judge::answer(rt, alloc, given, &mut answers)?,
         "run" => run::answer(rt, alloc, given, &mut answers)?,
         word => fq_test_worked::answer(rt, alloc, word, given, &mut answers)?,
     }
@@ -110,17 +107,7 @@ fn run_rows<R: Threads + Wait + Print + AllocGlobal + Files + Copy + Send + 'sta
     Ok(())
 }
 
-// Runs the rows of a file.
-fn run_file<R: Threads + Wait + Print + AllocGlobal + Files + Copy + Send + 'static>(
-    rt: &R,
-    name: &str,
-    score: &mut Score,
-) -> Result<()> {
-    let text = fs::read_to_string(rt, name).context(format_args!("reading {name}"))?;
-    run_rows(rt, &text, score).context(format_args!("in {name}"))
-}
-
-// Runs the rows of files.
+// Runs the rows of files, as if these were one file.
 fn run_files<R: Threads + Wait + Print + AllocGlobal + Files + Copy + Send + 'static>(
     rt: &R,
     files: &[String],
@@ -129,9 +116,13 @@ fn run_files<R: Threads + Wait + Print + AllocGlobal + Files + Copy + Send + 'st
         passed: 0,
         failed: 0,
     };
-    for file in files {
-        run_file(rt, file, &mut score)?;
+    let mut text = String::new(rt.alloc());
+    for name in files {
+        let file = fs::read_to_string(rt, name).context(format_args!("reading {name}"))?;
+        text.push_str(&file)?;
+        text.push_str("\n")?;
     }
+    run_rows(rt, &text, &mut score)?;
     let Score { passed, failed } = score;
     println!(rt; "{passed} rows passed")?;
     if failed > 0 {

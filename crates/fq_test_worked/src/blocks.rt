@@ -1,7 +1,6 @@
 //! `do: block` pushes the first `pairs` pairs of the texts `forward` and `reverse` into a block
 //! with the number `number`, in `encoding`. With a line `reset`, all pairs are pushed first, and
-//! the block is then reset to that number. With `lent: yes`, the first pair of the block is lent to
-//! another block, whose answers are put.
+//! the block is then reset to that number.
 //!
 //! Answers: `number`, `encoding`, `length`, `empty`, `bytes` (the packed pairs, byte by byte),
 //! `reads`, each as `(title|sequence|quality)`.
@@ -11,7 +10,7 @@ use crate::encoding_in;
 use crate::row::Given;
 use anyhow::{Result, bail};
 use fq_block::Block;
-use fq_pair::{Pair, PairSource, PairView};
+use fq_pair::{Pair, PairSource};
 use fq_test_texts::source_of;
 use fq_text::{Encoding, ReadView, ScriptFeed};
 use std::alloc::Global;
@@ -63,20 +62,8 @@ pub fn push_row(alloc: Global, block: &mut Block, given: &Given<'_>, most: u64) 
     Ok(())
 }
 
-// Pushes a pair that another block lends.
-fn push_lent(block: &mut Block, pair: &PairView<'_>) -> Result<()> {
-    let encoding = block.encoding();
-    if pair.forward.encoding() != encoding
-        || pair.reverse.encoding() != encoding
-        || block.len() >= MOST_PAIRS
-    {
-        bail!("another encoding");
-    }
-    block.push_view(pair)?;
-    Ok(())
-}
-
-fn put_read(reads: &mut Vec<u8>, read: &ReadView<'_>) -> Result<()> {
+/// Appends a read as `(title|sequence|quality)`.
+pub fn put_read(reads: &mut Vec<u8>, read: &ReadView<'_>) -> Result<()> {
     for (open, part) in [
         (b'(', read.title()),
         (b'|', read.seq()),
@@ -110,20 +97,6 @@ fn put_block(alloc: Global, answers: &mut Answers, block: &Block) -> Result<()> 
     Ok(())
 }
 
-// Pushes the first pair of one block into another, and puts the answers for that one.
-fn put_first(alloc: Global, answers: &mut Answers, other: &mut Block, block: &Block) -> Result<()> {
-    if block.is_empty() {
-        bail!("no pair");
-    }
-    push_lent(other, &block.pair(0))?;
-    put_block(alloc, answers, other)
-}
-
-fn put_lent(alloc: Global, answers: &mut Answers, block: &Block) -> Result<()> {
-    let mut other = Block::new(alloc, 0, block.encoding());
-    put_first(alloc, answers, &mut other, block)
-}
-
 // Pushes the pairs of the row into a block, and puts the answers.
 fn fill(alloc: Global, given: &Given<'_>, answers: &mut Answers, block: &mut Block) -> Result<()> {
     if given.find("reset").is_some() {
@@ -131,17 +104,12 @@ fn fill(alloc: Global, given: &Given<'_>, answers: &mut Answers, block: &mut Blo
         block.reset(given.number("reset", 0)?);
     }
     push_row(alloc, block, given, given.number("pairs", 0)?)?;
-    if given.text("lent")? == "yes" {
-        return put_lent(alloc, answers, block);
-    }
     put_block(alloc, answers, block)
 }
 
 /// Puts the answers to a `do: block` row.
 pub fn answer(alloc: Global, given: &Given<'_>, answers: &mut Answers) -> Result<()> {
-    given.allow(&[
-        "forward", "reverse", "encoding", "number", "pairs", "reset", "lent",
-    ])?;
+    given.allow(&["forward", "reverse", "encoding", "number", "pairs", "reset"])?;
     let number = given.number("number", 0)?;
     let encoding = encoding_in(given)?;
     let mut block = Block::new(alloc, number, encoding);

@@ -40,7 +40,6 @@ pub fn answer<R: Wait>(
 ) -> Result<()> {
     match word {
         "read" => reads::answer(alloc, given, answers),
-        "copy" => reads::answer_copies(alloc, given, answers),
         "score" => scores::answer(alloc, given, answers),
         "write" => scores::answer_written(alloc, given, answers),
         "trim" => steps::answer(alloc, given, answers),

@@ -1,7 +1,7 @@
 //! `do: mates` takes the titles `forward` and `reverse`. Answers: `forward` and `reverse`, the
 //! names in them; `match`, whether mates with these titles have one name.
 //!
-//! `do: printed` prints values. Answers: `outs`, `sides`, `text`, `missing` and `names`.
+//! `do: printed` prints faults of inputs. Answers: `text`, `missing` and `names`.
 //!
 //! `do: sum` adds the counts `first` and `second`, five numbers each in the order of a summary.
 //! Answer: `sum`.
@@ -9,10 +9,9 @@
 use crate::answers::Answers;
 use crate::row::Given;
 use anyhow::{Context, Result, bail};
-use fq_pair::{Counts, InputFault, Out, Side, name_of, names_match};
+use fq_pair::{Counts, InputFault, Side, name_of, names_match};
 use fq_text::TextFault;
 use std::alloc::Global;
-use std::fmt::Write;
 
 /// Puts the answers to a `do: mates` row.
 pub fn answer(_alloc: Global, given: &Given<'_>, answers: &mut Answers) -> Result<()> {
@@ -32,13 +31,6 @@ fn put_fault(alloc: Global, answers: &mut Answers, key: &str, fault: InputFault)
 /// Puts the answers to a `do: printed` row.
 pub fn answer_printed(alloc: Global, given: &Given<'_>, answers: &mut Answers) -> Result<()> {
     given.allow(&[])?;
-    let mut outs = String::new(alloc);
-    for out in Out::ALL {
-        write!(outs, "{out}, ")?;
-    }
-    answers.put("outs", outs.as_bytes())?;
-    let sides = format!(in alloc; "{}, {}", Side::Forward, Side::Reverse)?;
-    answers.put("sides", sides.as_bytes())?;
     put_fault(
         alloc,
         answers,

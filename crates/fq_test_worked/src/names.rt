@@ -31,11 +31,8 @@ impl<'a> Names<'a> {
 
     /// Gives each of these names its part of a word. Names and parts are separated by `/`.
     pub fn put_parts(&mut self, alloc: Global, names: &'a str, word: &str) -> Result<()> {
-        if word.split('/').count() != names.split('/').count() {
-            bail!("{word:?} has another number of parts than {names:?}");
-        }
-        for (name, part) in names.split('/').zip(word.split('/')) {
-            self.put(name, Vec::from_slice(alloc, part.as_bytes())?)?;
+        for (name, part) in paired(alloc, names, word, "/")?.iter() {
+            self.put(*name, Vec::from_slice(alloc, part.as_bytes())?)?;
         }
         Ok(())
     }
@@ -74,6 +71,20 @@ impl<'a> Names<'a> {
         }
         Ok(str::from_utf8(self.get(word)?)?.parse::<usize>()?)
     }
+}
+
+/// The parts of two texts between these marks, each of the first with one of the second. It is an
+/// error if one text has more parts.
+pub fn paired<'a, 'b>(
+    alloc: Global,
+    first: &'a str,
+    second: &'b str,
+    mark: &str,
+) -> Result<Vec<(&'a str, &'b str)>> {
+    if first.split(mark).count() != second.split(mark).count() {
+        bail!("{second:?} has another number of parts than {first:?}");
+    }
+    Ok(first.split(mark).zip(second.split(mark)).collect(alloc)?)
 }
 
 /// Decodes a text of a row into bytes.

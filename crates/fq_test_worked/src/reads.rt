@@ -6,18 +6,16 @@
 //! records, each time it is asked; `reads`, the number of read calls so far, after each record and
 //! after the end. `failures` has how often the feed failed, asked in the source and after it is
 //! taken out of it.
-//!
-//! `do: copy` copies the first record of `text`, which is lent, and goes on to the second. Answers:
-//! `kept`, the copy into a record that exists already, and `copy`, the copy into a new one.
 
 ghost use Rattle.std.specs.Prelude.{◌≡◌, false, [], IfOk};
 
 use crate::answers::Answers;
+use crate::blocks::put_read;
 use crate::encoding_in;
 use crate::row::Given;
 use anyhow::{Result, bail};
 use fq_run_core::CALL_LIMIT;
-use fq_text::{Encoding, FastqRecord, Feed, FeedFailed, ReadView, ScriptFeed, Source, TextFault};
+use fq_text::{Feed, FeedFailed, ScriptFeed, Source, TextFault};
 use std::alloc::Global;
 use std::fmt::Write;
 
@@ -66,17 +64,6 @@ fn source_of(alloc: Global, given: &Given<'_>) -> Result<Source<Counting>> {
 
 // Whether a record came, or the fault.
 type Came = std::result::Result<bool, TextFault>;
-
-fn put_read(records: &mut Vec<u8>, read: &ReadView<'_>) -> Result<()> {
-    records.push(b'(')?;
-    records.extend_from_slice(read.title())?;
-    records.push(b'|')?;
-    records.extend_from_slice(read.seq())?;
-    records.push(b'|')?;
-    records.extend_from_slice(read.qual())?;
-    records.push(b')')?;
-    Ok(())
-}
 
 fn put_given(records: &mut Vec<u8>, source: &mut Source<Counting>) -> Result<Came> {
     match source.next() {
@@ -183,53 +170,4 @@ pub fn answer(alloc: Global, given: &Given<'_>, answers: &mut Answers) -> Result
         format!(in alloc; "{within} {behind}")?.as_bytes(),
     )?;
     Ok(())
-}
-
-fn kept_copy(alloc: Global, read: &ReadView<'_>) -> Result<FastqRecord> {
-    let mut kept = FastqRecord::empty(alloc, Encoding::Sanger);
-    kept.copy_from(read)?;
-    Ok(kept)
-}
-
-// Makes two copies of the next record: one into a record that exists already, one into a new one.
-fn copies(alloc: Global, source: &mut Source<Counting>) -> Result<(FastqRecord, FastqRecord)> {
-    let Ok(true) = source.advance() else {
-        bail!("no record")
-    };
-    let read = source.record();
-    Ok((
-        kept_copy(alloc, &read)?,
-        FastqRecord::copy_of(alloc, &read)?,
-    ))
-}
-
-fn put_copies(
-    alloc: Global,
-    answers: &mut Answers,
-    kept: &FastqRecord,
-    copy: &FastqRecord,
-) -> Result<()> {
-    let mut text = Vec::new(alloc);
-    put_read(&mut text, &kept.view())?;
-    answers.put("kept", &text)?;
-    text.clear();
-    put_read(&mut text, &copy.view())?;
-    answers.put("copy", &text)?;
-    Ok(())
-}
-
-// Copies the first record of a source, and goes on to the second.
-fn copy_first(alloc: Global, answers: &mut Answers, source: &mut Source<Counting>) -> Result<()> {
-    let (kept, copy) = copies(alloc, source)?;
-    if source.advance() != Ok(true) {
-        bail!("no second record");
-    }
-    put_copies(alloc, answers, &kept, &copy)
-}
-
-/// Puts the answers to a `do: copy` row.
-pub fn answer_copies(alloc: Global, given: &Given<'_>, answers: &mut Answers) -> Result<()> {
-    given.allow(&["text", "encoding"])?;
-    let mut source = source_of(alloc, given)?;
-    copy_first(alloc, answers, &mut source)
 }

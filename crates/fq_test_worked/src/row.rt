@@ -2,7 +2,7 @@
 //!
 //! A line that begins with `#` is a comment. Each other line is a key, `: ` and a text:
 //!
-//! - `let NAME: TEXT` gives a text a name, for the rest of the file.
+//! - `let NAME: TEXT` gives a text a name, for all lines after it, those of further files too.
 //! - `row: TEXT` begins a row, and says in plain words what it is about.
 //! - `from: TEXT` says where the row comes from, such as a report or a real file. Nobody reads it.
 //! - `each NAME: WORD WORD ..` runs the row once for each word, with that word as the text of the
@@ -12,13 +12,16 @@
 //! - `= KEY: TEXT` is an expected answer, and `~ KEY: TEXT` an expected part of one.
 //! - Other lines are inputs of that function.
 //!
+//! `KEY / KEY: TEXT / TEXT` stands for several lines. A text may be a name that stands for the texts
+//! of all keys.
+//!
 //! The lines of a block before its first `row:` are part of each of its rows. Rows with the same
 //! keys may stand in a table. Its first line `| KEY | KEY |` has the keys, and each other one
 //! `| TEXT | TEXT |` is a row, with these texts and the lines that are part of each row. A key
 //! `<NAME>` gives the text that name, for its row. If no key is `row`, the line is its name. Spaces
 //! around a text don't count.
 
-use crate::names::{Names, decode};
+use crate::names::{Names, decode, paired};
 use anyhow::{Context, Result, bail};
 use std::alloc::Global;
 use std::fmt::Write;
@@ -85,12 +88,7 @@ impl<'a> Row<'a> {
     // Returns this row with the texts of a line of a table under the table's keys.
     fn with_cells(&self, alloc: Global, keys: &'a str, case: &'a str) -> Result<Row<'a>> {
         let mut row = self.named(alloc, case)?;
-        let keys = cells_of(alloc, keys)?;
-        let cells = cells_of(alloc, case)?;
-        if keys.len() != cells.len() {
-            bail!("{case:?} has another number of texts than the table has keys");
-        }
-        for (key, cell) in keys.iter().zip(cells.iter()) {
+        for (key, cell) in paired(alloc, within_bars(keys)?, within_bars(case)?, " | ")?.iter() {
             let (key, text) = (key.trim(), cell.trim());
             if key == "row" {
                 row.name = text;
@@ -149,13 +147,12 @@ fn put_cases<'a>(
     Ok(())
 }
 
-// Splits a line of a table into its cells.
-fn cells_of<'a>(alloc: Global, line: &'a str) -> Result<Vec<&'a str>> {
+// The cells of a line of a table.
+fn within_bars(line: &str) -> Result<&str> {
     let inner = line
         .strip_prefix("| ")
         .and_then(|rest| rest.strip_suffix(" |"));
-    let inner = inner.context(format_args!("no line of a table: {line:?}"))?;
-    Ok(inner.split(" | ").collect(alloc)?)
+    inner.context(format_args!("no line of a table: {line:?}"))
 }
 
 // Reads a line that is not a comment.
@@ -199,7 +196,7 @@ impl<'a> Given<'a> {
     pub fn new(alloc: Global, names: &Names<'_>, row: &Row<'a>) -> Result<Given<'a>> {
         let mut lines = Vec::new(alloc);
         for (key, text) in row.lines.iter() {
-            lines.push((*key, decode(alloc, names, text)?))?;
+            put_line(alloc, &mut lines, key, decode(alloc, names, text)?)?;
         }
         Ok(Given { lines })
     }
@@ -247,6 +244,23 @@ impl<'a> Given<'a> {
         }
         Ok(())
     }
+}
+
+// Appends a line, or one for each of its keys if it has several.
+fn put_line<'a>(
+    alloc: Global,
+    lines: &mut Vec<(&'a str, Vec<u8>)>,
+    keys: &'a str,
+    text: Vec<u8>,
+) -> Result<()> {
+    if !keys.contains(" / ") {
+        lines.push((keys, text))?;
+        return Ok(());
+    }
+    for (key, part) in paired(alloc, keys, str::from_utf8(&text)?, " / ")?.iter() {
+        lines.push((*key, Vec::from_slice(alloc, part.as_bytes())?))?;
+    }
+    Ok(())
 }
 
 // Whether a row may have a line with this key, if these keys are read.

@@ -1,7 +1,7 @@
-use Rattle.std.proofs.Common.{◌≡◌, ◌∙◌, ap, refl, codes, true}
+use Rattle.std.proofs.Common.{◌≡◌, ◌∙◌, ap, codes, true}
 use Rattle.std.proofs.lemmas.Result.{IfOk-weaker}
-use Rattle.clap.specs.Words.{Shape, app_of, new_app, with_subcommand}
-use Rattle.clap.specs.Simple.{app_of_fields, new_shape, on_top}
+use Rattle.clap.specs.Words.{Shape, app_of, new_app}
+use Rattle.clap.specs.Simple.{app_of_fields, on_top}
 use Rattle.fq_app_words.specs.Words.{IsCommand, interleaved_app, pairs_app, program_app}
 use Rattle.fq_app_words.proofs.WordLemmas.{one_below}
 use Rattle.fq_app_words.proofs.words.command.Goals as goal
@@ -15,15 +15,9 @@ versioned s = record s { has_version = true }
 abbrev propagating : Shape → Shape
 propagating s = record s { propagate_version = true }
 
-all_below : with_subcommand (with_subcommand (with_subcommand
-    (on_top propagating (on_top versioned (on_top wanting (new_app (codes "fq_prog")))))
-    pairs_app.top)
-    interleaved_app.top) (new_shape (codes "EXAMPLE")) ≡ program_app
-unfolding program_app pairs_app interleaved_app
-all_below = refl
-
 -- the command that is made is the program's, with `PE`, `IL` and `EXAMPLE` below it
 pub returns : goal.returns
+unfolding program_app pairs_app interleaved_app
 returns c =
     let about_is : app_of c.after_help.result ≡ new_app (codes "fq_prog") =
     ap app_of_fields c.after_help.ensures
@@ -47,4 +41,4 @@ returns c =
           ∙ (ap (λ fields. fields.has_globals) c.about-2.ensures ∙ c.new-2.ensures.local);
     } in
     IfOk-weaker c.subcommand-3.result _ _ (λ command adds. one_below _ _ _ _ (new_app
-    (codes "EXAMPLE")) adds example second_is ∙ all_below) c.subcommand-3.ensures
+    (codes "EXAMPLE")) adds example second_is) c.subcommand-3.ensures
