@@ -3,7 +3,7 @@
 use Rattle.std.proofs.Common.{◌≡◌, arith, refl}
 use Rattle.fq_pair.specs.Mates.{name_lengths}
 use Rattle.fq_run_core.proofs.WalkLemmas.{is_in_hand, of_in_hand, if_in_hand}
-use Rattle.fq_run_core.proofs.GatherLemmas.{gathered_none, gathered_more, gathered_few, gathers_full, gathers_end, gathers_fault, gathers_refused}
+use Rattle.fq_run_core.proofs.GatherLemmas.{gathered_none, gathered_more, gathered_few, gathers_full, gathers_stopped, gathers_refused}
 use Rattle.fq_run_core.proofs.gathering.gather.Goals as goal
 
 -- before the first pair the texts and the tally are those of no pairs
@@ -46,16 +46,16 @@ pub returns-in-Ok-false : goal.returns-in-Ok-false
 returns-in-Ok-false g c = let i = c.loop.invariant in let goes = i.goes in
     let asked = rw c.in-Ok-false.field-0-test at c.in-Ok-false.ensures in
     let met = asked.advances goes.last in
-    gathers_end c.args.steps.now c.args.tally.now _ _ _ _ _ _ _ (omega arith)
-    c.loop.invariant met.0
+    gathers_stopped c.args.steps.now c.args.tally.now _ _ _ _ _ _ _ _ (omega arith)
+    c.loop.invariant (_, i.walks, met.0)
 
 -- at a fault the block has the pairs before the fault
 pub returns-in-Err : goal.returns-in-Err
 returns-in-Err g c = let i = c.loop.invariant in let goes = i.goes in
     let asked = c.in-Err.ensures in
     let met = asked.advances goes.last in
-    gathers_fault c.args.steps.now c.args.tally.now _ _ _ _ _ _ _ _ (omega arith)
-    c.loop.invariant met.0
+    gathers_stopped c.args.steps.now c.args.tally.now _ _ _ _ _ _ _ _ (omega arith)
+    c.loop.invariant (_, i.walks, met.0)
 
 -- a pair that was read and added is one more pair of the block
 pub loop-preserved : goal.loop-preserved

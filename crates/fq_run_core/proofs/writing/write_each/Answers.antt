@@ -1,6 +1,6 @@
 -- Each block is gathered and written, until a write fails or reading stops.
 use Rattle.std.proofs.Common.{arith}
-use Rattle.fq_run_core.proofs.GatherLemmas.{gathers_as, end_is, end_none}
+use Rattle.fq_run_core.proofs.GatherLemmas.{end_is, end_none}
 use Rattle.fq_run_core.proofs.OutletLemmas.{still_healthy}
 use Rattle.fq_run_core.proofs.PassLemmas.{wrote_none, wrote_more, passes_broken, passes_whole, nearer}
 use Rattle.fq_run_core.proofs.writing.write_each.Goals as goal
@@ -19,8 +19,7 @@ write_block-why-requires-clause-outlets g c = let w = c.writing.invariant in
 pub returns-in-Err : goal.returns-in-Err
 returns-in-Err g c =
     let block = c.write_block-why.ensures in
-    let gathered = gathers_as c.steps-steps.ensures
-    c.block_pairs-most.ensures.pairs block.gathers in
+    let gathered = rw (c.steps-steps.ensures, c.block_pairs-most.ensures.pairs) at block.gathers in
     passes_broken c.args.settings.now _ _ c.in-Err.out c.writing.invariant gathered
     (rw c.in-Err.is at block.sends)
     (rw c.in-Err.is at block.uncounted)
@@ -29,8 +28,7 @@ returns-in-Err g c =
 pub returns-then-is_some : goal.returns-then-is_some
 returns-then-is_some g c =
     let block = c.write_block-why.ensures in
-    let gathered = gathers_as c.steps-steps.ensures
-    c.block_pairs-most.ensures.pairs block.gathers in
+    let gathered = rw (c.steps-steps.ensures, c.block_pairs-most.ensures.pairs) at block.gathers in
     passes_whole c.args.settings.now _ _ c.writing.invariant gathered
     (rw c.in_default.is at block.sends) c.requires.fresh c.requires.few
     (omega (arith, c.block_pairs-most.ensures.most, c.block_pairs-most.ensures.pairs))
@@ -41,8 +39,7 @@ returns-then-is_some g c =
 pub writing-smaller : goal.writing-smaller
 writing-smaller g c =
     let block = c.write_block-why.ensures in
-    let gathered = gathers_as c.steps-steps.ensures
-    c.block_pairs-most.ensures.pairs block.gathers in
+    let gathered = rw (c.steps-steps.ensures, c.block_pairs-most.ensures.pairs) at block.gathers in
     nearer c.args.settings.now _ _ c.writing.invariant gathered
     (omega (arith, c.block_pairs-most.ensures.some, c.block_pairs-most.ensures.pairs))
     (end_none _ _ c.is_some.ensures c.if-is_some.false)
@@ -51,8 +48,7 @@ writing-smaller g c =
 pub writing-preserved : goal.writing-preserved
 writing-preserved g c =
     let block = c.write_block-why.ensures in
-    let gathered = gathers_as c.steps-steps.ensures
-    c.block_pairs-most.ensures.pairs block.gathers in
+    let gathered = rw (c.steps-steps.ensures, c.block_pairs-most.ensures.pairs) at block.gathers in
     wrote_more c.args.settings.now _ _ c.writing.invariant gathered
     (rw c.in_default.is at block.sends) c.requires.fresh c.requires.few
     (omega (arith, c.block_pairs-most.ensures.most, c.block_pairs-most.ensures.pairs))
