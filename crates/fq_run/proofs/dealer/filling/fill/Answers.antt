@@ -2,7 +2,7 @@
 use Rattle.std.proofs.Common.{◌≡◌, arith, sym, ◌∙◌}
 use Rattle.fq_pair.specs.Mates.{name_lengths}
 use Rattle.fq_run_core.proofs.WalkLemmas.{is_in_hand, of_in_hand, if_in_hand}
-use Rattle.fq_run.proofs.dealer.DealerLemmas.{filled_none, filled_more, filled_encoding, fills_full, fills_end, fills_fault, fills_refused}
+use Rattle.fq_run.proofs.dealer.DealerLemmas.{filled_none, filled_more, filled_encoding, fills_full, fills_stopped, fills_refused}
 use Rattle.fq_run.proofs.dealer.filling.fill.Goals as goal
 
 -- before the first pair the block is empty
@@ -39,14 +39,16 @@ pub returns-in-Ok-false : goal.returns-in-Ok-false
 returns-in-Ok-false g c = let i = c.loop.invariant in let goes = i.goes in
     let asked = rw c.in-Ok-false.field-0-test at c.in-Ok-false.ensures in
     let met = asked.advances goes.last in
-    fills_end _ _ _ _ _ _ c.loop.invariant _ (omega arith) met.0
+    fills_stopped _ _ _ _ _ _ c.loop.invariant _ _ (omega arith) (_, i.walks, met.0)
+    (λ refused is. absurd cc)
 
 -- at a fault the block has the pairs before the fault
 pub returns-in-Err : goal.returns-in-Err
 returns-in-Err g c = let i = c.loop.invariant in let goes = i.goes in
     let asked = c.in-Err.ensures in
     let met = asked.advances goes.last in
-    fills_fault _ _ _ _ _ _ c.loop.invariant _ _ (omega arith) met.0
+    fills_stopped _ _ _ _ _ _ c.loop.invariant _ _ (omega arith) (_, i.walks, met.0)
+    (λ refused is. absurd cc)
 
 -- after the last turn the block is full
 pub returns : goal.returns
