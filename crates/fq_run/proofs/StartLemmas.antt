@@ -8,14 +8,13 @@ use Rattle.fq_text.specs.declared.encoding.Encoding.{Encoding}
 use Rattle.fq_pair.specs.declared.out.Out.{Out}
 use Rattle.fq_pair.specs.declared.fault.InputFault.TheVariants.{NamesDiffer}
 use Rattle.fq_pair.specs.Mates.{MateNames}
-use Rattle.fq_pair.specs.Outputs.{no_counts}
 use Rattle.fq_run_core.specs.declared.outcome.Outcome.{Outcome}
 use Rattle.fq_run_core.specs.declared.outcome.Outcome.TheVariants as outcome
 use Rattle.fq_run_core.specs.declared.reading_end.ReadingEnd.{ReadingEnd}
 use Rattle.fq_run_core.specs.Choices.{Choices}
 use Rattle.fq_run.specs.dealer.Dealt.{CanDeal, HasDealt}
 use Rattle.fq_run.specs.declared.dealer.Dealer.{Dealer}
-use Rattle.fq_run.specs.declared.ready.Ready.{Ready}
+use Rattle.fq_run.specs.declared.lanes.Lanes.{Lanes}
 use Rattle.fq_run.proofs.MatchLemmas.{to_dealt}
 use Rattle.fq_text.specs.Devices.{FeedState}
 use Rattle.fq_run_core.specs.Devices.{OutletStates}
@@ -24,14 +23,14 @@ use Rattle.fq_run_core.specs.Fates.{Unbroken}
 use Rattle.fq_run_core.specs.Outcomes.{is_unmatched}
 use Rattle.std.specs.Option.{option_map}
 use Rattle.std.proofs.lemmas.Grind.{common_steps}
-use Rattle.fq_run.specs.Threads.{IsReady, IsFresh, IsThreaded, run_from, names_left}
+use Rattle.fq_run.specs.Threads.{AreLaidOut, IsFresh, IsThreaded, run_from, names_left}
 use Rattle.fq_run.specs.declared.conclusion.Conclusion.{Conclusion}
 use Rattle.fq_pair.specs.Forms.{Form}
 use Rattle.fq_pair.specs.Walks.{SourceState, GoesOn}
 use Rattle.fq_run_core.specs.PairsRead.{fresh_source, feed_in}
 use Rattle.fq_run_core.proofs.OutletLemmas.{flush_keeps}
 use Rattle.fq_run_core.proofs.PassLemmas.{runs_refused}
-use Rattle.fq_run_core.proofs.RunLemmas.{run_every}
+use Rattle.fq_run_core.proofs.RunLemmas.{run_with, run_keeps}
 use Rattle.fq_run_core.specs.declared.reading_end.ReadingEnd.TheVariants as reading
 use Rattle.fq_run_core.specs.Writing.{FlushesAfter, no_halt}
 use Rattle.fq_run_core.specs.declared.total.Total.{Total}
@@ -79,18 +78,7 @@ module _ (c : Choices) (form : Form) (f r : FeedState) (f' r' : Option FeedState
     (lacked : MemoryRefused) where
   -- the run
   abbrev unstarted_run : Run
-  unstarted_run = record {
-    form = form;
-    forward = f;
-    reverse = r;
-    outlets = o;
-    forward_left = f';
-    reverse_left = r';
-    outlets_left = o;
-    outcome = outcome.Spawn;
-    counts = no_counts;
-    tally = None;
-  }
+  unstarted_run = run_with form f r o f' r' o outcome.Spawn (no_total false)
 
   every : EveryEnding c unstarted_run
   every = record {
@@ -143,20 +131,8 @@ pub refused : (form : Form) (c : Choices) (f r f' r' : FeedState) (before after 
     (counted : Total) (failed : Option Out) (lacked : MemoryRefused) → f' ≡ f → r' ≡ r →
     counted ≡ no_total false → FlushesAfter None before after failed →
     f.failures ≡ 0 → r.failures ≡ 0 → {holds : Bool} → {told : Option MateNames} →
-    IsThreaded c holds (record {
-      form = form;
-      forward = f;
-      reverse = r;
-      outlets = before;
-      forward_left =
-          Some f';
-      reverse_left = Some r';
-      outlets_left = after;
-      outcome = outcome.Memory;
-      counts =
-          counted.counts;
-      tally = counted.tally;
-    }) None (Some lacked) told
+    IsThreaded c holds (run_with form f r before (Some f') (Some r') after outcome.Memory counted)
+    None (Some lacked) told
 refused form c f r f' r' before after counted failed lacked same also none flushed sound sound' =
     let p = runs_refused {E = Unit {0}} lacked form c f r f' r' before counted same also none in
     record {
@@ -172,9 +148,9 @@ refused form c f r f' r' before after counted failed lacked same also none flush
       untouched = λ at. absurd cc;
       names = tt;
       whole = λ ends told. absurd cc;
-      every = λ lane. run_every form c f r f' r' before before counted no_halt
+      every = λ lane. (run_keeps form c f r f' r' before before counted no_halt
           (Some (reading.Memory lacked)) None p after failed outcome.Memory flushed refl sound
-          sound' counted (none ∙ sym (ap (ended outcome.Memory) none));
+          sound' counted (none ∙ sym (ap (ended outcome.Memory) none))).every;
     }
 
 -- what holds of the names that a source has holds of those that were returned
@@ -201,36 +177,27 @@ pub closed : {S F G : Type 0} (state : S → SourceState) (fs : F → FeedState)
     r' ≡ option_map reverse_of e.source →
     {holds : Bool} →
     IsThreaded c holds (run_from state s before after e) e.unended e.refused (names_left state e) →
-    IsThreaded c holds (record {
-      form = form;
-      forward = fs f;
-      reverse = gs r;
-      outlets =
-          before;
-      forward_left = option_map fs f';
-      reverse_left = option_map gs r';
-      outlets_left =
-          after;
-      outcome = o;
-      counts = counted.counts;
-      tally = counted.tally;
-    }) u lacked told
+    IsThreaded c holds (run_with form (fs f) (gs r) before (option_map fs f') (option_map gs r')
+    after o counted) u lacked told
 closed state fs gs forward_of reverse_of first second form c s f r is before after e o counted f' r'
     u lacked told outcome_is counts_are ended witness names left right {holds} t =
     grind (arith, common_steps, names_told)
 
 -- a dealer whose lanes are new, over a source that nothing was read from
 pub can_deal : {S : Type 0} (tallied : Bool) (workers : ℕ) (c : Choices) (s : SourceState)
-    (dealer : Dealer S) (ready : Ready) → IsReady tallied workers dealer ready →
-    length dealer.to.items ≡ vec_len dealer.to →
-    IsFresh c s → s.most_bytes ≤ 2 ^ 60 → CanDeal c s dealer
-can_deal tallied workers c s dealer ready r len is few =
-    let some = r.some in let to = r.to in let closings = r.closings in
+    (dealer : Dealer S) (lanes : Lanes) → AreLaidOut tallied workers lanes →
+    dealer.to ≡ lanes.seats.to → dealer.closings ≡ lanes.closings →
+    length dealer.to.items ≡ vec_len dealer.to → IsFresh c s → s.most_bytes ≤ 2 ^ 60 →
+    CanDeal c s dealer
+can_deal tallied workers c s dealer lanes r same also len is few =
+    let some = r.some in let all = r.all in let closings = r.closings in
+    let to = ap (λ (v : _). vec_len v) same in
     record {
-      room = (closings.0, omega (arith, closings.1));
+      room = rw also (closings.0, omega (arith, closings.1));
       deals = record {
         some = omega arith;
-        lanes = to_dealt tallied (vec_len dealer.to) dealer.to.items _ _ len r.laid;
+        lanes = to_dealt tallied (vec_len dealer.to) dealer.to.items lanes.seats.ends.items
+            lanes.seats.replies.items len (rw same r.laid);
         goes = subst GoesOn (sym is.fresh) (record { last = refl; within = omega arith });
         fresh = ap (λ (z : SourceState). z.forward.given) is.fresh;
         encoding = ap (λ (z : SourceState). z.encoding) is.fresh;

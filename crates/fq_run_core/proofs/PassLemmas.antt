@@ -1,9 +1,9 @@
 -- From the feeds to the outlets: blocks that are written one after another.
-use Rattle.std.proofs.Common.{◌≡◌, ◌-◌, ◌<◌, ◌≤◌, ◌^◌, Option, Some, None, Result, Ok, IfOk, List, [], ◌++◌, refl, sym, ap, ◌∙◌, arith, false}
+use Rattle.std.proofs.Common.{◌≡◌, ◌-◌, ◌<◌, ◌≤◌, ◌^◌, Option, Some, None, Ok, List, [], ◌++◌, refl, sym, ap, ◌∙◌, arith, false}
 use Rattle.std.proofs.lemmas.List.{append-nil}
 use Rattle.std.proofs.lemmas.Grind.{common_steps}
 use Rattle.fq_pair.specs.declared.out.Out.{Out}
-use Rattle.fq_pair.specs.Mates.{Mates, MateNames}
+use Rattle.fq_pair.specs.Mates.{Mates}
 use Rattle.fq_pair.specs.Summaries.{capped}
 use Rattle.fq_pair.specs.Outputs.{Outputs, texts_of, text_of}
 use Rattle.fq_report_pairs.specs.declared.done.Done.{Done}
@@ -23,11 +23,10 @@ use Rattle.fq_run_core.proofs.TotalLemmas.{some_pair, no_total_is, total_added, 
 use Rattle.fq_run_core.proofs.WalkLemmas.{walks_none, walks_then, reads_then}
 use Rattle.fq_pair.proofs.SideLemmas.{walked_records}
 use Rattle.fq_text.specs.declared.memory.MemoryRefused.{MemoryRefused}
-use Rattle.fq_run_core.specs.declared.halt.Halt.{Halt}
 use Rattle.fq_run_core.specs.declared.written.Written.{Written}
 use Rattle.fq_text.specs.Devices.{FeedState}
 use Rattle.fq_pair.specs.Forms.{Form}
-use Rattle.fq_run_core.specs.PairsRead.{fresh_source, feed_in}
+use Rattle.fq_run_core.specs.PairsRead.{fresh_source}
 use Rattle.fq_run_core.specs.declared.reading_end.ReadingEnd.TheVariants as reading
 
 -- Blocks that are written one after another.
@@ -205,14 +204,3 @@ pub runs_nothing : {E : Type 0} (refused : MemoryRefused) (form : Form) (c : Cho
     w ≡ nothing_written (Some (reading.Memory refused)) → f' ≡ f → r' ≡ r →
     Runs {E = E} form c f r f' r' o o w.total no_halt w.why w.failed (Ok None)
 runs_nothing refused form c f r f' r' o w is same also = grind (arith, common_steps, runs_refused)
-
--- what was read from a fresh source and written
-pub runs_passed : {E : Type 0} (form : Form) (c : Choices) (f r f' r' : FeedState)
-    (old new : SourceState) (before after : OutletStates) (counted : Total) (halt : Halt)
-    (why : Option ReadingEnd) (failed : Option Out) →
-    old ≡ fresh_source form c f r → f' ≡ feed_in new.forward → r' ≡ feed_in new.reverse →
-    Passes c old new before after counted halt why failed →
-    (names : Result (Option MateNames) E) → IfOk names (λ held. held ≡ new.names) →
-    Runs form c f r f' r' before after counted halt why failed names
-runs_passed form c f r f' r' old new before after counted halt why failed is first second p names
-    held = grind (arith, common_steps)
