@@ -45,6 +45,7 @@ pub(crate) fn write_blocks<S: PairReader, O: Outlet>(
 
 // Does the work of `write_blocks` with borrowed room for the texts of a block, on a borrowed result,
 // which says so far that nothing was read or written.
+#[tactic(auto, using(std::proofs::lemmas::Grind::common_steps, crate::proofs::PassLemmas::passes_unasked))]
 fn write_with<S: PairReader, O: Outlet>(
     alloc: Global,
     settings: &Settings,
@@ -72,6 +73,7 @@ fn write_with<S: PairReader, O: Outlet>(
 
 // Reads and writes block by block, and counts each block that is written completely. Returns why
 // reading stopped, if it did, and the outlet whose write failed, if one did.
+#[tactic(auto, using(std::proofs::lemmas::Grind::common_steps, crate::proofs::PassLemmas::wrote_none, crate::proofs::PassLemmas::nearer, crate::proofs::GatherLemmas::end_none))]
 fn write_each<S: PairReader, O: Outlet>(
     settings: &Settings,
     source: &mut S,

@@ -2,13 +2,8 @@
 use Rattle.std.proofs.Common.{arith}
 use Rattle.fq_run_core.proofs.GatherLemmas.{end_is, end_none}
 use Rattle.fq_run_core.proofs.OutletLemmas.{still_healthy}
-use Rattle.fq_run_core.proofs.PassLemmas.{wrote_none, wrote_more, passes_broken, passes_whole, nearer}
+use Rattle.fq_run_core.proofs.PassLemmas.{wrote_more, passes_broken, passes_whole}
 use Rattle.fq_run_core.proofs.writing.write_each.Goals as goal
-
--- before the first block nothing is written, and there is a tally if one is asked for
-pub writing-init : goal.writing-init
-writing-init g c =
-    wrote_none c.args.settings.now _ _ c.args.total.now c.requires.goes c.requires.none
 
 -- no outlet has failed in the blocks so far
 pub write_block-why-requires-clause-outlets : goal.write_block-why-requires-clause-outlets
@@ -34,15 +29,6 @@ returns-then-is_some g c =
     (omega (arith, c.block_pairs-most.ensures.most, c.block_pairs-most.ensures.pairs))
     (end_is _ _ c.is_some.ensures c.if-is_some.true)
     (rw c.in_default.is at block.counted)
-
--- a full block brings the end nearer
-pub writing-smaller : goal.writing-smaller
-writing-smaller g c =
-    let block = c.write_block-why.ensures in
-    let gathered = rw (c.steps-steps.ensures, c.block_pairs-most.ensures.pairs) at block.gathers in
-    nearer c.args.settings.now _ _ c.writing.invariant gathered
-    (omega (arith, c.block_pairs-most.ensures.some, c.block_pairs-most.ensures.pairs))
-    (end_none _ _ c.is_some.ensures c.if-is_some.false)
 
 -- if the block is full and was written, there is one more complete block
 pub writing-preserved : goal.writing-preserved
