@@ -52,11 +52,10 @@ unread state s None same = (tt, tt)
 unread state s (Some x) same = (ap (λ z. feed_in z.forward) same, ap (λ z. feed_in z.reverse) same)
 
 -- a dealer whose reading has not stopped got no start item, and has not read
-pub idle : {S : Type 0} (state : S → SourceState) (c : Choices) (s old new : SourceState) (start
-    start_left : History (Unit {0})) (to : List (History Numbered))
+pub idle : {S : Type 0} (state : S → SourceState) (c : Choices) (s old new : SourceState)
+    (start start_left : History (Unit {0})) (to : List (History Numbered))
     (closings : List (Result (History Numbered) NotEnded)) (why : Option ReadingEnd) (x : S)
-    (o : Option S) →
-    old ≡ s → state x ≡ new → HasDealt c old new start start_left to closings why →
+    (o : Option S) → old ≡ s → state x ≡ new → HasDealt c old new start start_left to closings why →
     IfSome o (λ y. (y ≡ x) × (why ≡ None)) → IfSome o (λ y. state y ≡ s)
 idle state c s old new start start_left to closings why x None same is h unread = tt
 idle state c s old new start start_left to closings why x (Some y) same is h unread =

@@ -38,8 +38,7 @@ module _ (steps : List Step) (tally : Option Tally) where
     len = refl;
     made = clear;
     tallied = sym (with_nothing steps tally);
-    walks =
-        walks_none s goes.last;
+    walks = walks_none s goes.last;
     goes = goes;
   }
 
@@ -60,9 +59,8 @@ module _ (steps : List Step) (tally : Option Tally) where
       record {
         block = g.block ++ m ∷ [];
         len = omega (arith, length-append g.block (m ∷ []));
-        made = is ∙ ap (λ (d : Done). with_mates steps d m) g.made
-            ∙ made_more steps done.number g.block m
-            ∙ ap (λ (i : ℕ). made_of steps i (g.block ++ m ∷ [])) number;
+        made = is ∙ ap (λ (d : Done). with_mates steps d m) g.made ∙ made_more steps done.number
+            g.block m ∙ ap (λ (i : ℕ). made_of steps i (g.block ++ m ∷ [])) number;
         tallied = counted ∙ ap (λ r. tally_with steps t (mates_in r reverse ∷ [])) first
             ∙ ap (λ r. tally_with steps t (mates_in m.forward r ∷ [])) second
             ∙ ap (λ (x : Option Tally). tally_with steps x (m ∷ [])) g.tallied

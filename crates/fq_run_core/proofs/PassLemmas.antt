@@ -67,8 +67,7 @@ module _ (c : Choices) (old : SourceState) (before : OutletStates) where
     pub passes_broken : {then : OutletStates} (failed : Out) → Wrote now after counted →
         Gathers now next c.steps c.block_pairs counted.tally total.tally done why →
         BreaksAt after then done.texts failed → total.counts ≡ counted.counts →
-        Passes c old next before then total no_halt why
-        (Some failed)
+        Passes c old next before then total no_halt why (Some failed)
     passes_broken {then} failed w g p is =
         let same =
         λ (out : Out). ap (λ (t : Outputs). text_of out (texts_of c.steps w.whole) ++ part_at
@@ -94,8 +93,7 @@ module _ (c : Choices) (old : SourceState) (before : OutletStates) where
 
     counts_block : (w : Wrote now after counted)
         (g : Gathers now next c.steps c.block_pairs counted.tally total.tally done why) →
-        old.forward.given ≡ 0 →
-        old.most_bytes ≤ 2 ^ 60 → c.block_pairs ≤ 65536 →
+        old.forward.given ≡ 0 → old.most_bytes ≤ 2 ^ 60 → c.block_pairs ≤ 65536 →
         total.counts ≡ capped counted.counts done.texts.counts →
         total ≡ total_of c.tallied c.steps (w.whole ++ g.block)
     counts_block w g none few most is =
@@ -133,10 +131,9 @@ module _ (c : Choices) (old : SourceState) (before : OutletStates) where
     -- another block is written, and more may come
     pub wrote_more : {then : OutletStates} → Wrote now after counted →
         Gathers now next c.steps c.block_pairs counted.tally total.tally done why →
-        OutletsTook after then (λ out. text_of out done.texts) None →
-        old.forward.given ≡ 0 → old.most_bytes ≤ 2 ^ 60 → c.block_pairs ≤ 65536 → why ≡ None →
-        total.counts ≡ capped counted.counts done.texts.counts →
-        Wrote next then total
+        OutletsTook after then (λ out. text_of out done.texts) None → old.forward.given ≡ 0 →
+        old.most_bytes ≤ 2 ^ 60 → c.block_pairs ≤ 65536 → why ≡ None →
+        total.counts ≡ capped counted.counts done.texts.counts → Wrote next then total
     wrote_more {then} w g p none few most going is =
         record {
           whole = w.whole ++ g.block;
@@ -149,9 +146,8 @@ module _ (c : Choices) (old : SourceState) (before : OutletStates) where
   -- each block brings the end nearer
   pub nearer : {now next : SourceState} {after : OutletStates} {counted : Total}
       {t u : Option Tally} {done : Done} {why : Option ReadingEnd} → Wrote now after counted →
-      Gathers now next c.steps c.block_pairs t u done why →
-      1 ≤ c.block_pairs → why ≡ None → old.most_bytes - next.forward.given < old.most_bytes -
-      now.forward.given
+      Gathers now next c.steps c.block_pairs t u done why → 1 ≤ c.block_pairs → why ≡ None →
+      old.most_bytes - next.forward.given < old.most_bytes - now.forward.given
   nearer {now} {next} {after} {counted} {t} {u} {done} {why} w g some going =
       grind (arith, common_steps)
 

@@ -61,8 +61,7 @@ Verdict halt why failed (Endless side) =
 Verdict halt why failed (Input fault) =
     (why ≡ Some (reading.Fault fault)) × (failed ≡ None) × (halt ≡ no_halt)
     × (is_from_outside fault ≡ false)
-Verdict halt why failed Finished =
-    (why ≡ Some reading.End) × (failed ≡ None) × (halt ≡ no_halt)
+Verdict halt why failed Finished = (why ≡ Some reading.End) × (failed ≡ None) × (halt ≡ no_halt)
 Verdict halt why failed _ = ⊥
 
 abbrev halt_of : Bool → Option MemoryRefused → Halt
@@ -80,8 +79,7 @@ verdict_of false None why (Some out) over = (refl, refl, refl)
 verdict_of false None None None over = absurd (over refl refl)
 verdict_of false None (Some reading.End) None over = (refl, refl, refl)
 verdict_of false None (Some (reading.Fault (Text side text.Read))) None over = (refl, refl, refl)
-verdict_of false None (Some (reading.Fault (Text side text.Endless))) None over =
-    (refl, refl, refl)
+verdict_of false None (Some (reading.Fault (Text side text.Endless))) None over = (refl, refl, refl)
 verdict_of false None (Some (reading.Fault fault)) None over = (refl, refl, refl, refl)
 
 -- a run in which reading stopped, or an outlet failed, has its outcome for one of these reasons
@@ -342,8 +340,7 @@ module _ (form : Form) (c : Choices) (f r : FeedState) (new : SourceState)
 
   failed_once_at : (side : Side) → why ≡ Some (reading.Fault (Text side text.Read)) →
       failures_in (feed_left side run) ≡ 1
-  failed_once_at side is =
-      failures_are side ∙ ap (failed_by form side) is ∙ read_once form side
+  failed_once_at side is = failures_are side ∙ ap (failed_by form side) is ∙ read_once form side
 
   -- what was written if a flush failed
   came : AreTold run → (w : Option ReadingEnd) → why ≡ w → (why ≡ None → ⊥) →
@@ -399,8 +396,7 @@ module _ (form : Form) (c : Choices) (f r : FeedState) (new : SourceState)
   -- the tally is that of the pairs that were written, if the run ended whole
   tally_is : (x : Outcome) → Verdict halt why failed x →
       tally_at x counted.tally ≡ tally_if (c.tallied && ends_whole x) c.steps p.whole
-  tally_is (outcome.Input fault) w =
-      rw and-true (p.counts.tally w.2 w.1 (ap refused_in w.0))
+  tally_is (outcome.Input fault) w = rw and-true (p.counts.tally w.2 w.1 (ap refused_in w.0))
   tally_is outcome.Finished w = rw and-true (p.counts.tally w.2 w.1 (ap refused_in w.0))
   tally_is _ w = rw and-false refl
 
@@ -453,8 +449,7 @@ module _ (form : Form) (c : Choices) (f r : FeedState) (new : SourceState)
       trimmed_all told w.1 w.2 (ap refused_in w.0) (Some fault)
       (reads_fault form c f r new all_read fault (reads_at (reading.Fault fault) w.0) w.3
       told.forward told.reverse) is
-  trimmed_by outcome.Finished is w ends told =
-      trimmed_all told w.1 w.2 (ap refused_in w.0) None
+  trimmed_by outcome.Finished is w ends told = trimmed_all told w.1 w.2 (ap refused_in w.0) None
       (reads_end form c f r new all_read (reads_at reading.End w.0) told.forward told.reverse) is
   trimmed_by _ is w ends told = absurd cc
 

@@ -35,12 +35,8 @@ pub record Filled (old now : SourceState) (empty block : Numbered) (n : ℕ) : T
 
 -- one more pair
 abbrev pub pushed : Numbered → Mates → Numbered
-pushed block m = record {
-  number = block.number;
-  encoding = block.encoding;
-  pairs =
-      block.pairs ++ m ∷ [];
-}
+pushed block m =
+    record { number = block.number; encoding = block.encoding; pairs = block.pairs ++ m ∷ [] }
 
 -- an empty block is one into which no pair was read yet
 pub filled_none : (s : SourceState) (block : Numbered) → GoesOn s → block.pairs ≡ [] →
@@ -55,9 +51,8 @@ filled_none s block goes clear = record {
 
 -- one more pair was read, and is in the block
 pub filled_more : (old now next : SourceState) (empty block then : Numbered) (n : ℕ) (m : Mates) →
-    Filled old now empty block n → Walks now next (m ∷ []) →
-    next.forward.given ≤ next.most_bytes → then ≡ pushed block m →
-    Filled old next empty then (n + 1)
+    Filled old now empty block n → Walks now next (m ∷ []) → next.forward.given ≤ next.most_bytes →
+    then ≡ pushed block m → Filled old next empty then (n + 1)
 filled_more old now next empty block then n m f w within is =
     let len = f.len in
     rw is (record {

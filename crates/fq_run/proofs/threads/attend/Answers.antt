@@ -85,9 +85,8 @@ module _ (lists : List (List Step)) where
       ≡ plus (of_blocks (b ∷ every (w - 1) w bs)) (lanes_sum n w bs)
   unfolding lanes_sum
   moved zero w b bs = refl
-  moved (suc n) w b bs =
-      ap (plus (of_blocks (every n w bs))) (moved n w b bs)
-      ∙ swapped (of_blocks (every n w bs)) (of_blocks (b ∷ every (w - 1) w bs)) (lanes_sum n w bs)
+  moved (suc n) w b bs = ap (plus (of_blocks (every n w bs))) (moved n w b bs) ∙ swapped
+      (of_blocks (every n w bs)) (of_blocks (b ∷ every (w - 1) w bs)) (lanes_sum n w bs)
 
   -- shares of no blocks
   none_sum : (n w : ℕ) → lanes_sum n w [] ≡ no_tally
@@ -133,8 +132,7 @@ one_added a b t is = ap (tally_plus (Some a)) is
 -- the tallies of the shares before k, and then of those from k on
 all_added : (steps : List Step) (n : ℕ) (bs : List Numbered) (k : ℕ) (ws : List Worked) →
     HaveTallied true steps n bs k ws →
-    tallies_from (Some (lanes_sum (alone steps) k n bs)) ws
-    ≡ Some (lanes_sum (alone steps) n n bs)
+    tallies_from (Some (lanes_sum (alone steps) k n bs)) ws ≡ Some (lanes_sum (alone steps) n n bs)
 unfolding lanes_sum
 all_added steps n bs k [] have = grind (arith, common_steps)
 all_added steps n bs k (w ∷ ws) have =
@@ -182,10 +180,9 @@ took_sent : (t : History Numbered) (c : Result (History Numbered) NotEnded) (w :
 took_sent t c w closed same = grind (arith, common_steps)
 
 module _ (tallied : Bool) (steps : List Step) (holds : Bool) (n : ℕ) (bs : List Numbered) where
-  one_tallied : (k : ℕ) (a m : Name) (t : History Numbered)
-      (c : Result (History Numbered) NotEnded) (w : Worked) (f : History Reply) →
-      Closed t c → Answered tallied steps holds a m w → Confirmed c w f →
-      t.items ≡ every k n bs → list_any (is_stop Gate) f.items ≡ false →
+  one_tallied : (k : ℕ) (a m : Name) (t : History Numbered) (c : Result (History Numbered) NotEnded)
+      (w : Worked) (f : History Reply) → Closed t c → Answered tallied steps holds a m w →
+      Confirmed c w f → t.items ≡ every k n bs → list_any (is_stop Gate) f.items ≡ false →
       list_any (is_stop (Memory witness)) f.items ≡ false →
       w.tally ≡ tally_if tallied steps (pairs_of (every k n bs))
   one_tallied k a m t c w f closed h confirmed dealt gate memory =
@@ -215,8 +212,7 @@ module _ (tallied : Bool) (steps : List Step) (holds : Bool) (n : ℕ) (bs : Lis
       ∙ ap (λ (i : ℕ). every i n bs) same in (
         one_tallied k x m t c w f closed.0 a.0 confirmed.0 first g.0 o.0,
         have_tallied (suc k) ns ms ts cs ws fs closed.1 a.1 confirmed.1 (omega arith)
-            (λ j d lt.
-            (let next : k + suc j ≡ suc k + j = omega arith in
+            (λ j d lt. (let next : k + suc j ≡ suc k + j = omega arith in
             dealt (suc j) d (omega arith) ∙ ap (λ (i : ℕ). every i n bs) next)) g.1 o.1,
       )
   have_tallied k _ _ (t ∷ ts) [] _ _ closed a confirmed len dealt gate memory = absurd closed
