@@ -8,6 +8,4 @@ mod ahead;
 #[cfg(test)]
 mod frame;
 #[cfg(test)]
-mod samples;
-#[cfg(test)]
 mod seeing;
