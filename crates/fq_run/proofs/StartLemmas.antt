@@ -91,39 +91,13 @@ module _ (c : Choices) (form : Form) (f r : FeedState) (f' r' : Option FeedState
     first = λ told. ((all_pairs c unstarted_run).mates, refl);
     forward = back_as_it_was f f' forward;
     reverse = back_as_it_was r r' reverse;
-    outcome = record {
-      spawn = λ at. refl;
-      write = λ out at. absurd cc;
-      read = λ side at. absurd cc;
-      endless = λ side at told. absurd cc;
-      outlet_failed = λ out at. omega arith;
-      feed_failed = λ side some. omega arith;
-      cut_at_read = λ told side at. absurd cc;
-      cut_at_endless = λ told side at. absurd cc;
-      next_at_read = λ one told side at. absurd cc;
-      next_at_endless = λ one told side at. absurd cc;
-      flushed = λ told out is at. absurd cc;
-    };
+    outcome = grind (arith, common_steps);
   }
 
   -- what is promised of a run on several threads holds if a thread was refused
   pub unstarted : {told : Option MateNames} →
       IsThreaded c holds unstarted_run None (Some lacked) told
-  unstarted = record {
-    files = λ out. refl;
-    lane = λ at. absurd cc;
-    no_other = λ some. absurd cc;
-    memory = λ at. refl;
-    spawn = λ at. refl;
-    gate = λ at. absurd cc;
-    forward = λ gone. refl;
-    reverse = λ gone. refl;
-    together = both;
-    untouched = λ at. record { outlets = refl; forward = forward; reverse = reverse };
-    names = tt;
-    whole = λ ends told. absurd cc;
-    every = λ sound. every;
-  }
+  unstarted = grind (arith, common_steps, every)
 
 -- if memory was refused before the threads started, the outlets were only flushed
 pub refused : (form : Form) (c : Choices) (f r f' r' : FeedState) (before after : OutletStates)

@@ -41,13 +41,7 @@ pushed block m =
 -- an empty block is one into which no pair was read yet
 pub filled_none : (s : SourceState) (block : Numbered) → GoesOn s → block.pairs ≡ [] →
     Filled s s block block 0
-filled_none s block goes clear = record {
-  number = refl;
-  encoding = refl;
-  len = ap length clear;
-  walks = rw clear (walks_none s goes.last);
-  goes = goes;
-}
+filled_none s block goes clear = grind (arith, common_steps, walks_none)
 
 -- one more pair was read, and is in the block
 pub filled_more : (old now next : SourceState) (empty block then : Numbered) (n : ℕ) (m : Mates) →
