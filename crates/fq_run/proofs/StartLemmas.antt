@@ -1,5 +1,5 @@
 -- A run whose threads could not all be started.
-use Rattle.std.proofs.Common.{◌≡◌, ◌↔◌, Option, Some, None, IfSome, IsSome, true, false, Result, ℕ, List, [], length, refl, sym, ap, ◌∙◌, subst, arith, ◌≤◌, ◌^◌, vec_len, Bool}
+use Rattle.std.proofs.Common.{◌≡◌, ◌↔◌, Option, Some, None, IfSome, IsSome, true, false, Result, ℕ, List, [], length, refl, sym, ap, ◌∙◌, arith, ◌≤◌, ◌^◌, vec_len, Bool}
 use Rattle.fq_lane.specs.History.{History}
 use Rattle.fq_lane.specs.declared.tx.NotEnded.{NotEnded}
 use Rattle.fq_text.specs.declared.memory.MemoryRefused.{MemoryRefused}
@@ -26,7 +26,7 @@ use Rattle.std.proofs.lemmas.Grind.{common_steps}
 use Rattle.fq_run.specs.Threads.{AreLaidOut, IsFresh, IsThreaded, run_from, names_left}
 use Rattle.fq_run.specs.declared.conclusion.Conclusion.{Conclusion}
 use Rattle.fq_pair.specs.Forms.{Form}
-use Rattle.fq_pair.specs.Walks.{SourceState, GoesOn}
+use Rattle.fq_pair.specs.Walks.{SourceState}
 use Rattle.fq_run_core.specs.PairsRead.{fresh_source, feed_in}
 use Rattle.fq_run_core.proofs.OutletLemmas.{flush_keeps}
 use Rattle.fq_run_core.proofs.PassLemmas.{runs_refused}
@@ -163,17 +163,4 @@ pub can_deal : {S : Type 0} (tallied : Bool) (workers : ℕ) (c : Choices) (s : 
     length dealer.to.items ≡ vec_len dealer.to → IsFresh c s → s.most_bytes ≤ 2 ^ 60 →
     CanDeal c s dealer
 can_deal tallied workers c s dealer lanes r same also len is few =
-    let some = r.some in let all = r.all in let closings = r.closings in
-    let to = ap (λ (v : _). vec_len v) same in
-    record {
-      room = rw also (closings.0, omega (arith, closings.1));
-      deals = record {
-        some = omega arith;
-        lanes = to_dealt tallied (vec_len dealer.to) dealer.to.items lanes.seats.ends.items
-            lanes.seats.replies.items len (rw same r.laid);
-        goes = subst GoesOn (sym is.fresh) (record { last = refl; within = omega arith });
-        fresh = ap (λ (z : SourceState). z.forward.given) is.fresh;
-        encoding = ap (λ (z : SourceState). z.encoding) is.fresh;
-        few = few;
-      };
-    }
+    grind (arith, common_steps, to_dealt)
