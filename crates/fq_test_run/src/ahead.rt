@@ -1,10 +1,11 @@
 //! How far a run reads ahead.
 
-use super::frame::{assert_ended, forward_feed, outlets, seven_pairs};
-use super::seeing::{LOOKS, WatchedFeed};
+ghost use Rattle.std.specs.Prelude.{false, []};
+
+use super::frame::{SEVEN_COUNTS, assert_ended, forward_feed, outlets, seven_pairs};
 use fq_run::Outcome;
-use fq_test_memory_run::in_order;
 use fq_test_texts::SEVEN_STEPS;
+use fq_text::{Feed, FeedFailed, ScriptFeed};
 use fq_trim::Steps;
 use fq_work::Gate;
 use std::alloc::Global;
@@ -15,7 +16,36 @@ use std::sync::{Arc, Wait};
 use std::test::Fail;
 use std::thread::Threads;
 
-// How often a gate looks for one read call too many.
+/// A feed that counts its read calls.
+#[derive(Drop)]
+struct CountedFeed {
+    feed: ScriptFeed,
+    reads: Arc<AtomicU64>,
+    failures: u64,
+}
+
+impl Feed for CountedFeed {
+    ghost state = { λ f. record { tells = false; to_come = []; failures = f.failures } };
+
+    fn read(&mut self, buf: &mut [u8]) -> Result<usize, FeedFailed> {
+        self.reads.fetch_add(1, Ordering::SeqCst);
+        if self.feed.failures() == 0 {
+            if let Ok(n) = self.feed.read(buf) {
+                return Ok(n);
+            }
+        }
+        self.failures += 1;
+        Err(FeedFailed)
+    }
+
+    fn failures(&self) -> u64 {
+        self.failures
+    }
+}
+
+// How often a gate looks for a read call, and how often for one too many after it.
+const LOOKS: u64 = 1_000_000_000;
+
 const MORE_LOOKS: u64 = 3_000_000;
 
 /// A gate that lets the first block pass only if exactly `wanted` read calls are made meanwhile.
@@ -61,24 +91,22 @@ fn assert_reads_ahead<R: Abort + Threads + Wait + Copy + Send + 'static>(
     depth: u64,
     wanted: u64,
 ) -> Result<(), Fail> {
-    let run = seven_pairs(1, depth, Steps::parse(SEVEN_STEPS)?);
+    let run = seven_pairs(depth, Steps::parse(SEVEN_STEPS)?);
     let reads = Arc::new(alloc, AtomicU64::new(0))?;
     let gate = JustSoManyReads {
         wanted,
         reads: Arc::try_clone(&reads)?,
     };
-    let forward = WatchedFeed {
+    let forward = CountedFeed {
         feed: forward_feed(alloc, &run)?,
         reads,
-        meeting: None,
         failures: 0,
     };
     let mut outlets = outlets(alloc, &run)?;
     let left = run
         .go_over(rt, alloc, gate, forward, &mut outlets)?
         .ok_or("no memory")?;
-    let log = outlets.log.as_ref().ok_or("a log")?;
-    assert_ended(rt, &left, in_order(&outlets, log), Outcome::Finished, 7);
+    assert_ended(rt, &left, Outcome::Finished, SEVEN_COUNTS);
     Ok(())
 }
 

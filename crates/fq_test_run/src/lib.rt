@@ -8,4 +8,6 @@ mod ahead;
 #[cfg(test)]
 mod frame;
 #[cfg(test)]
+mod samples;
+#[cfg(test)]
 mod seeing;

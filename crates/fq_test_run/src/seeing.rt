@@ -3,30 +3,32 @@
 ghost use Rattle.std.specs.Prelude.{◌≡◌, None, false, [], IfOk};
 ghost use Rattle.fq_run_core.specs.Devices.{outlet_states, AreHealthy};
 
-use super::frame::{assert_ended, forward_feed, outlets, seven_pairs};
+use super::frame::{
+    SEVEN_COUNTS, TWO_COUNTS, assert_ended, assert_texts, assert_written, forward_feed, outlets,
+    seven_pairs, two_pairs,
+};
+use fq_pair::Counts;
 use fq_run::{Outcome, Outlets};
 use fq_test_memory_run::{MemoryRun, in_order};
-use fq_test_texts::SEVEN_STEPS;
+use fq_test_texts::{SEVEN_STEPS, SEVEN_WRITTEN, TWO_STEPS, TWO_WRITTEN, Written};
 use fq_text::{Feed, FeedFailed, Outlet, OutletFailed, ScriptFeed, ScriptOutlet};
 use fq_trim::Steps;
 use fq_work::{Gate, OpenGate};
 use std::alloc::Global;
 use std::hint;
-use std::process::Abort;
-use std::sync::atomic::{AtomicBool, AtomicU64, Ordering};
-use std::sync::{Arc, Wait};
+use std::sync::Arc;
+use std::sync::atomic::{AtomicBool, Ordering};
 use std::test::Fail;
-use std::thread::Threads;
 
 // How often a thread looks for another one that comes.
-pub const LOOKS: u64 = 1_000_000_000;
+const LOOKS: u64 = 1_000_000_000;
 
 // How often a thread looks for another one that does not come.
 const FEW_LOOKS: u64 = 1_000_000;
 
 /// Two threads that must see each other.
 #[derive(Drop)]
-pub struct Meeting {
+struct Meeting {
     first: AtomicBool,
     second: AtomicBool,
     looks: u64,
@@ -83,43 +85,41 @@ impl Gate for BothAtOnce {
     }
 }
 
-// A run of this many workers, whose gate looks this often for the second of the first two blocks.
-fn assert_meets<R: Abort + Threads + Wait + Copy + Send + 'static>(
-    rt: &R,
-    alloc: Global,
-    workers: u64,
-    looks: u64,
-    outcome: Outcome,
-    pairs: usize,
-) -> Result<(), Fail> {
-    let run = seven_pairs(workers, 1, Steps::parse(SEVEN_STEPS)?);
-    let mut outlets = outlets(alloc, &run)?;
-    let gate = BothAtOnce {
-        meeting: Meeting::new(looks),
-    };
-    let left = run.go(rt, alloc, gate, &mut outlets)?.ok_or("no memory")?;
-    let log = outlets.log.as_ref().ok_or("a log")?;
-    assert_ended(rt, &left, in_order(&outlets, log), outcome, pairs);
-    Ok(())
-}
-
 #[test]
 fn two_workers_see_each_other_through_the_gate(rt: HostRuntime) -> Result<(), Fail> {
-    assert_meets(&rt, rt.alloc(), 2, LOOKS, Outcome::Finished, 7)
+    let run = two_pairs(2, Steps::parse(TWO_STEPS)?);
+    let mut outlets = outlets(rt.alloc(), &run)?;
+    let gate = BothAtOnce {
+        meeting: Meeting::new(LOOKS),
+    };
+    let left = run
+        .go(&rt, rt.alloc(), gate, &mut outlets)?
+        .ok_or("no memory")?;
+    assert_ended(&rt, &left, Outcome::Finished, TWO_COUNTS);
+    assert_written(&rt, &outlets, &TWO_WRITTEN)
 }
 
 #[test]
 fn one_worker_sees_no_other(rt: HostRuntime) -> Result<(), Fail> {
-    assert_meets(&rt, rt.alloc(), 1, FEW_LOOKS, Outcome::Gate, 0)
+    let run = two_pairs(1, Steps::parse(TWO_STEPS)?);
+    let mut outlets = outlets(rt.alloc(), &run)?;
+    let gate = BothAtOnce {
+        meeting: Meeting::new(FEW_LOOKS),
+    };
+    let left = run
+        .go(&rt, rt.alloc(), gate, &mut outlets)?
+        .ok_or("no memory")?;
+    assert_ended(&rt, &left, Outcome::Gate, Counts::ZERO);
+    assert_written(&rt, &outlets, &Written::NOTHING)
 }
 
-/// A feed that counts its read calls. The fifth must see a write, if it has a meeting.
+/// A feed whose fifth read call must see a write.
 #[derive(Drop)]
-pub struct WatchedFeed {
-    pub feed: ScriptFeed,
-    pub reads: Arc<AtomicU64>,
-    pub meeting: Option<Arc<Meeting>>,
-    pub failures: u64,
+struct SeeingFeed {
+    feed: ScriptFeed,
+    reads: u64,
+    meeting: Arc<Meeting>,
+    failures: u64,
 }
 
 /// An outlet whose first write call must see a read, if it has a meeting.
@@ -132,15 +132,12 @@ struct SeeingOutlet {
     is_flushed: bool,
 }
 
-impl Feed for WatchedFeed {
+impl Feed for SeeingFeed {
     ghost state = { λ f. record { tells = false; to_come = []; failures = f.failures } };
 
     fn read(&mut self, buf: &mut [u8]) -> Result<usize, FeedFailed> {
-        let before = self.reads.fetch_add(1, Ordering::SeqCst);
-        let seen = match &self.meeting {
-            Some(meeting) if before == 4 => meeting.meet(true),
-            _ => true,
-        };
+        self.reads = self.reads.saturating_add(1);
+        let seen = self.reads != 5 || self.meeting.meet(true);
         if seen && self.feed.failures() == 0 {
             if let Ok(n) = self.feed.read(buf) {
                 return Ok(n);
@@ -200,16 +197,16 @@ fn seeing_outlet(alloc: Global, meeting: Option<Arc<Meeting>>) -> SeeingOutlet
 }
 
 // A feed and outlets: the fifth read call must see the first write to forward paired.
-fn seeing(alloc: Global, run: &MemoryRun<'_>) -> Result<(WatchedFeed, Outlets<SeeingOutlet>), Fail>
+fn seeing(alloc: Global, run: &MemoryRun<'_>) -> Result<(SeeingFeed, Outlets<SeeingOutlet>), Fail>
     ensures feed { IfOk result (λ devices. devices.0.failures ≡ 0) }
     ensures outlets { IfOk result (λ devices. AreHealthy
         (outlet_states ⟦<SeeingOutlet as Outlet>⟧.state devices.1)) }
 {
     let meeting = Arc::new(alloc, Meeting::new(LOOKS))?;
-    let forward = WatchedFeed {
+    let forward = SeeingFeed {
         feed: forward_feed(alloc, run)?,
-        reads: Arc::new(alloc, AtomicU64::new(0))?,
-        meeting: Some(Arc::try_clone(&meeting)?),
+        reads: 0,
+        meeting: Arc::try_clone(&meeting)?,
         failures: 0,
     };
     let outlets = Outlets {
@@ -224,13 +221,14 @@ fn seeing(alloc: Global, run: &MemoryRun<'_>) -> Result<(WatchedFeed, Outlets<Se
 
 #[test]
 fn a_reader_and_a_writer_see_each_other(rt: HostRuntime) -> Result<(), Fail> {
-    let run = seven_pairs(1, 1, Steps::parse(SEVEN_STEPS)?);
+    let run = seven_pairs(1, Steps::parse(SEVEN_STEPS)?);
     let (forward, mut outlets) = seeing(rt.alloc(), &run)?;
     let left = run
         .go_over(&rt, rt.alloc(), OpenGate, forward, &mut outlets)?
         .ok_or("no memory")?;
+    assert_ended(&rt, &left, Outcome::Finished, SEVEN_COUNTS);
     let log = outlets.log.as_ref().ok_or("a log")?;
     let taken = in_order(&outlets, log).map(|outlet| &outlet.outlet);
-    assert_ended(&rt, &left, taken, Outcome::Finished, 7);
+    assert_texts(&rt, taken, &SEVEN_WRITTEN);
     Ok(())
 }

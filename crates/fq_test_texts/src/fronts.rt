@@ -5,16 +5,70 @@ use fq_pair::{Counts, Out};
 use fq_text::{Outlet, ScriptOutlet};
 use std::cmp::Ordering;
 
-/// What each pair adds to the outputs, in the order of [`Out::ALL`], with a bar after each but the
-/// last.
-const ADDED: [&str; 7] = [
-    "@n1/1\nACGT\n+\nIIII\n||@n1/2\nTT\n+\nII\n||n1 4 0 4 0\nn1 2 0 2 2\n",
-    "@n2/1\nGT\n+\nII\n||@n2/2\nTT\n+\nII\n||n2 2 2 4 0\nn2 2 0 2 2\n",
-    "|@n3/1\nACGT\n+\nIIII\n|||n3 4 0 4 0\nn3 0 0 0 0\n",
-    "@n4/1\nGT\n+\nII\n||@n4/2\nTT\n+\nII\n||n4 2 2 4 0\nn4 2 0 2 2\n",
-    "@n5/1\nACGT\n+\nIIII\n||@n5/2\nTT\n+\nII\n||n5 4 0 4 0\nn5 2 0 2 2\n",
-    "|@n6/1\nGT\n+\nII\n|||n6 2 2 4 0\nn6 0 0 0 0\n",
-    "@n7/1\nACGT\n+\nIIII\n||@n7/2\nTT\n+\nII\n||n7 4 0 4 0\nn7 2 0 2 2\n",
+/// What each pair adds to each output.
+const ADDED: [[&[u8]; 5]; 7] = [
+    [
+        b"@n1/1\nACGT\n+\nIIII\n",
+        b"",
+        b"@n1/2\nTT\n+\nII\n",
+        b"",
+        b"n1 4 0 4 0\nn1 2 0 2 2\n",
+    ],
+    [
+        b"@n2/1\nGT\n+\nII\n",
+        b"",
+        b"@n2/2\nTT\n+\nII\n",
+        b"",
+        b"n2 2 2 4 0\nn2 2 0 2 2\n",
+    ],
+    [
+        b"",
+        b"@n3/1\nACGT\n+\nIIII\n",
+        b"",
+        b"",
+        b"n3 4 0 4 0\nn3 0 0 0 0\n",
+    ],
+    [
+        b"@n4/1\nGT\n+\nII\n",
+        b"",
+        b"@n4/2\nTT\n+\nII\n",
+        b"",
+        b"n4 2 2 4 0\nn4 2 0 2 2\n",
+    ],
+    [
+        b"@n5/1\nACGT\n+\nIIII\n",
+        b"",
+        b"@n5/2\nTT\n+\nII\n",
+        b"",
+        b"n5 4 0 4 0\nn5 2 0 2 2\n",
+    ],
+    [
+        b"",
+        b"@n6/1\nGT\n+\nII\n",
+        b"",
+        b"",
+        b"n6 2 2 4 0\nn6 0 0 0 0\n",
+    ],
+    [
+        b"@n7/1\nACGT\n+\nIIII\n",
+        b"",
+        b"@n7/2\nTT\n+\nII\n",
+        b"",
+        b"n7 4 0 4 0\nn7 2 0 2 2\n",
+    ],
+];
+
+/// For the first 0 to 7 pairs: in how many of them both mates survive, and in how many only the
+/// forward mate.
+const SURVIVORS: [(u64, u64); 8] = [
+    (0, 0),
+    (1, 0),
+    (2, 0),
+    (2, 1),
+    (3, 1),
+    (4, 1),
+    (4, 2),
+    (5, 2),
 ];
 
 /// What a run left in its outputs.
@@ -65,16 +119,15 @@ pub fn front_in_order(
 // The number of pairs that these counts belong to.
 fn counted(counts: Counts) -> Option<usize> {
     let pairs = usize::try_from(counts.pairs).ok()?;
-    // Every third pair loses its reverse read.
-    let forward_only = counts.pairs / 3;
+    let (both, forward_only) = *SURVIVORS.get(pairs)?;
     let wanted = Counts {
         pairs: counts.pairs,
-        both: counts.pairs - forward_only,
+        both,
         forward_only,
         reverse_only: 0,
         dropped: 0,
     };
-    (pairs <= ADDED.len() && counts == wanted).then_some(pairs)
+    (counts == wanted).then_some(pairs)
 }
 
 // Whether these are the texts of the first `pairs` pairs.
@@ -111,7 +164,7 @@ fn breaks_off(text: &[u8], place: usize, pairs: usize, begun: usize) -> bool {
         return false;
     };
     for outputs in ADDED.iter().take(begun).skip(pairs) {
-        let Some(added) = part(outputs, place) else {
+        let Some(added) = outputs.get(place) else {
             return false;
         };
         match rest.strip_prefix(added) {
@@ -126,12 +179,7 @@ fn breaks_off(text: &[u8], place: usize, pairs: usize, begun: usize) -> bool {
 fn behind<'a>(text: &'a [u8], place: usize, pairs: usize) -> Option<&'a [u8]> {
     let mut rest = text;
     for outputs in ADDED.iter().take(pairs) {
-        rest = rest.strip_prefix(part(outputs, place)?)?;
+        rest = rest.strip_prefix(outputs.get(place)?)?;
     }
     Some(rest)
-}
-
-// What a pair adds to the output at index `place`.
-fn part(outputs: &'static str, place: usize) -> Option<&'static [u8]> {
-    Some(outputs.split('|').nth(place)?.as_bytes())
 }
