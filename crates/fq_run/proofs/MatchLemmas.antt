@@ -56,8 +56,7 @@ no_history = record { name = (null_ptr, (null_ptr, (0, (0, 0)))); items = []; ma
 -- Replies and blocks.
 
 -- the replies that came are those to the blocks that were sent
-abbrev pub Matched :
-    List Step → Result (History Numbered) NotEnded → History Reply → Type 0
+abbrev pub Matched : List Step → Result (History Numbered) NotEnded → History Reply → Type 0
 Matched steps closing replies = IsOkAnd closing (λ e.
     (cause : Option Cause) × Answers steps e.items replies.items cause)
 
@@ -76,8 +75,7 @@ module _ (steps : List Step) where
       let tail : map done ds ++ p.0 ≡ rs = cc in
       let rest = answers_first ds bs rs cause (p.0, tail) h.1 in (
         rest.0,
-        ap (λ y. y ∷ (ds ++ rest.0)) (same ∙ h.0)
-            ∙ ap (λ ys. done_of steps b ∷ ys) rest.1,
+        ap (λ y. y ∷ (ds ++ rest.0)) (same ∙ h.0) ∙ ap (λ ys. done_of steps b ∷ ys) rest.1,
       )
   answers_first (d ∷ ds) (b ∷ bs) (Stop why ∷ rs) cause p h = grind (arith, common_steps)
   answers_first (d ∷ ds) [] [] cause p h = let q = p.1 in cc
@@ -104,10 +102,9 @@ module _ (steps : List Step) where
   matched_one t (Err e) f h m = absurd m
 
   matched_at : (ts : List (History Numbered)) (cs : List (Result (History Numbered) NotEnded))
-      (fs : List (History Reply)) → AllZip Closed ts cs → AllZip (Matched steps) cs fs →
-      (j : ℕ) (d : History Numbered) (e : History Reply) → j < length fs →
-      (cause : Option Cause) × Answers steps (get_or ts j d).items (get_or fs j e).items
-      cause
+      (fs : List (History Reply)) → AllZip Closed ts cs → AllZip (Matched steps) cs fs → (j : ℕ)
+      (d : History Numbered) (e : History Reply) → j < length fs →
+      (cause : Option Cause) × Answers steps (get_or ts j d).items (get_or fs j e).items cause
   matched_at (t ∷ ts) (c ∷ cs) (f ∷ fs) h m zero d e lt = matched_one t c f h.0 m.0
   matched_at (t ∷ ts) (c ∷ cs) (f ∷ fs) h m (suc j) d e lt =
       matched_at ts cs fs h.1 m.1 j d e (omega arith)
@@ -121,14 +118,10 @@ module _ (steps : List Step) where
       (matched : AllZip (Matched steps) cs fs) (some : 0 < w) where
     -- the replies of lane j are those to the blocks that were dealt to it
     replied : length fs ≡ w → (j : ℕ) → j < w →
-        (cause : Option Cause) × Answers steps (every j w bs) (get_or fs j no_history).items
-        cause
+        (cause : Option Cause) × Answers steps (every j w bs) (get_or fs j no_history).items cause
     replied lanes j lt =
         let m = matched_at ts cs fs closed matched j no_history no_history
-        (omega (arith, lanes)) in (
-          m.0,
-          rw (dealt.items j no_history lt) at m.1,
-        )
+        (omega (arith, lanes)) in (m.0, rw (dealt.items j no_history lt) at m.1)
 
     first_at : (ds : List Done) → length fs ≡ w → (j : ℕ) → j < w →
         IsPrefix (every j w (map done ds)) (get_or fs j no_history).items →
@@ -179,8 +172,7 @@ laid_length tallied ts es fs h =
 -- nothing was dealt yet to the new lanes of w workers
 pub to_dealt : (tallied : Bool) (w : ℕ) (ts : List (History Numbered)) (es : List WorkEnds)
     (fs : List (History Reply)) → length ts ≡ w → Each3 (Laid tallied) ts es fs → IsDealt w [] ts
-to_dealt tallied w ts es fs len h =
-    rw len at (laid_dealt tallied ts es fs h).0
+to_dealt tallied w ts es fs len h = rw len at (laid_dealt tallied ts es fs h).0
 
 -- nothing came yet through the new lanes from w workers
 pub replies_dealt : (tallied : Bool) (w : ℕ) (ts : List (History Numbered)) (es : List WorkEnds)
@@ -198,8 +190,7 @@ module _ (tallied : Bool) (steps : List Step) (holds : Bool) where
     -- that lane was taken to its mark
     pub closed : w.rx.marked ≡ true
     -- what it sent through lane m, if the lane has ended, answers these blocks
-    pub answers : IfOk w.closing (λ e. (e.name ≡ m)
-        × Answers steps w.rx.items e.items w.cause)
+    pub answers : IfOk w.closing (λ e. (e.name ≡ m) × Answers steps w.rx.items e.items w.cause)
     -- if it stopped at the gate, the gate may hold back a block
     pub gate : w.cause ≡ Some Gate → IsTrue holds
     -- if it answered all of them, it counted their pairs

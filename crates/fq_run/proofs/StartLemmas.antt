@@ -1,5 +1,5 @@
 -- A run whose threads could not all be started.
-use Rattle.std.proofs.Common.{◌≡◌, ◌↔◌, Option, Some, None, IfSome, IsSome, true, false, Result, ℕ, List, [], length, refl, sym, ap, ◌∙◌, subst, arith, ◌≤◌, ◌^◌, vec_len, Bool}
+use Rattle.std.proofs.Common.{◌≡◌, ◌↔◌, Option, Some, None, IfSome, IsSome, true, false, Result, ℕ, List, [], length, refl, sym, ap, ◌∙◌, arith, ◌≤◌, ◌^◌, vec_len, Bool}
 use Rattle.fq_lane.specs.History.{History}
 use Rattle.fq_lane.specs.declared.tx.NotEnded.{NotEnded}
 use Rattle.fq_text.specs.declared.memory.MemoryRefused.{MemoryRefused}
@@ -8,14 +8,13 @@ use Rattle.fq_text.specs.declared.encoding.Encoding.{Encoding}
 use Rattle.fq_pair.specs.declared.out.Out.{Out}
 use Rattle.fq_pair.specs.declared.fault.InputFault.TheVariants.{NamesDiffer}
 use Rattle.fq_pair.specs.Mates.{MateNames}
-use Rattle.fq_pair.specs.Outputs.{no_counts}
 use Rattle.fq_run_core.specs.declared.outcome.Outcome.{Outcome}
 use Rattle.fq_run_core.specs.declared.outcome.Outcome.TheVariants as outcome
 use Rattle.fq_run_core.specs.declared.reading_end.ReadingEnd.{ReadingEnd}
 use Rattle.fq_run_core.specs.Choices.{Choices}
 use Rattle.fq_run.specs.dealer.Dealt.{CanDeal, HasDealt}
 use Rattle.fq_run.specs.declared.dealer.Dealer.{Dealer}
-use Rattle.fq_run.specs.declared.ready.Ready.{Ready}
+use Rattle.fq_run.specs.declared.lanes.Lanes.{Lanes}
 use Rattle.fq_run.proofs.MatchLemmas.{to_dealt}
 use Rattle.fq_text.specs.Devices.{FeedState}
 use Rattle.fq_run_core.specs.Devices.{OutletStates}
@@ -24,14 +23,14 @@ use Rattle.fq_run_core.specs.Fates.{Unbroken}
 use Rattle.fq_run_core.specs.Outcomes.{is_unmatched}
 use Rattle.std.specs.Option.{option_map}
 use Rattle.std.proofs.lemmas.Grind.{common_steps}
-use Rattle.fq_run.specs.Threads.{IsReady, IsFresh, IsThreaded, run_from, names_left}
+use Rattle.fq_run.specs.Threads.{AreLaidOut, IsFresh, IsThreaded, run_from, names_left}
 use Rattle.fq_run.specs.declared.conclusion.Conclusion.{Conclusion}
 use Rattle.fq_pair.specs.Forms.{Form}
-use Rattle.fq_pair.specs.Walks.{SourceState, GoesOn}
+use Rattle.fq_pair.specs.Walks.{SourceState}
 use Rattle.fq_run_core.specs.PairsRead.{fresh_source, feed_in}
 use Rattle.fq_run_core.proofs.OutletLemmas.{flush_keeps}
 use Rattle.fq_run_core.proofs.PassLemmas.{runs_refused}
-use Rattle.fq_run_core.proofs.RunLemmas.{run_every}
+use Rattle.fq_run_core.proofs.RunLemmas.{run_with, run_keeps}
 use Rattle.fq_run_core.specs.declared.reading_end.ReadingEnd.TheVariants as reading
 use Rattle.fq_run_core.specs.Writing.{FlushesAfter, no_halt}
 use Rattle.fq_run_core.specs.declared.total.Total.{Total}
@@ -53,11 +52,10 @@ unread state s None same = (tt, tt)
 unread state s (Some x) same = (ap (λ z. feed_in z.forward) same, ap (λ z. feed_in z.reverse) same)
 
 -- a dealer whose reading has not stopped got no start item, and has not read
-pub idle : {S : Type 0} (state : S → SourceState) (c : Choices) (s old new : SourceState) (start
-    start_left : History (Unit {0})) (to : List (History Numbered))
+pub idle : {S : Type 0} (state : S → SourceState) (c : Choices) (s old new : SourceState)
+    (start start_left : History (Unit {0})) (to : List (History Numbered))
     (closings : List (Result (History Numbered) NotEnded)) (why : Option ReadingEnd) (x : S)
-    (o : Option S) →
-    old ≡ s → state x ≡ new → HasDealt c old new start start_left to closings why →
+    (o : Option S) → old ≡ s → state x ≡ new → HasDealt c old new start start_left to closings why →
     IfSome o (λ y. (y ≡ x) × (why ≡ None)) → IfSome o (λ y. state y ≡ s)
 idle state c s old new start start_left to closings why x None same is h unread = tt
 idle state c s old new start start_left to closings why x (Some y) same is h unread =
@@ -79,18 +77,7 @@ module _ (c : Choices) (form : Form) (f r : FeedState) (f' r' : Option FeedState
     (lacked : MemoryRefused) where
   -- the run
   abbrev unstarted_run : Run
-  unstarted_run = record {
-    form = form;
-    forward = f;
-    reverse = r;
-    outlets = o;
-    forward_left = f';
-    reverse_left = r';
-    outlets_left = o;
-    outcome = outcome.Spawn;
-    counts = no_counts;
-    tally = None;
-  }
+  unstarted_run = run_with form f r o f' r' o outcome.Spawn (no_total false)
 
   every : EveryEnding c unstarted_run
   every = record {
@@ -104,59 +91,21 @@ module _ (c : Choices) (form : Form) (f r : FeedState) (f' r' : Option FeedState
     first = λ told. ((all_pairs c unstarted_run).mates, refl);
     forward = back_as_it_was f f' forward;
     reverse = back_as_it_was r r' reverse;
-    outcome = record {
-      spawn = λ at. refl;
-      write = λ out at. absurd cc;
-      read = λ side at. absurd cc;
-      endless = λ side at told. absurd cc;
-      outlet_failed = λ out at. omega arith;
-      feed_failed = λ side some. omega arith;
-      cut_at_read = λ told side at. absurd cc;
-      cut_at_endless = λ told side at. absurd cc;
-      next_at_read = λ one told side at. absurd cc;
-      next_at_endless = λ one told side at. absurd cc;
-      flushed = λ told out is at. absurd cc;
-    };
+    outcome = grind (arith, common_steps);
   }
 
   -- what is promised of a run on several threads holds if a thread was refused
   pub unstarted : {told : Option MateNames} →
       IsThreaded c holds unstarted_run None (Some lacked) told
-  unstarted = record {
-    files = λ out. refl;
-    lane = λ at. absurd cc;
-    no_other = λ some. absurd cc;
-    memory = λ at. refl;
-    spawn = λ at. refl;
-    gate = λ at. absurd cc;
-    forward = λ gone. refl;
-    reverse = λ gone. refl;
-    together = both;
-    untouched = λ at. record { outlets = refl; forward = forward; reverse = reverse };
-    names = tt;
-    whole = λ ends told. absurd cc;
-    every = λ sound. every;
-  }
+  unstarted = grind (arith, common_steps, every)
 
 -- if memory was refused before the threads started, the outlets were only flushed
 pub refused : (form : Form) (c : Choices) (f r f' r' : FeedState) (before after : OutletStates)
     (counted : Total) (failed : Option Out) (lacked : MemoryRefused) → f' ≡ f → r' ≡ r →
     counted ≡ no_total false → FlushesAfter None before after failed →
     f.failures ≡ 0 → r.failures ≡ 0 → {holds : Bool} → {told : Option MateNames} →
-    IsThreaded c holds (record {
-      form = form;
-      forward = f;
-      reverse = r;
-      outlets = before;
-      forward_left =
-          Some f';
-      reverse_left = Some r';
-      outlets_left = after;
-      outcome = outcome.Memory;
-      counts =
-          counted.counts;
-      tally = counted.tally;
-    }) None (Some lacked) told
+    IsThreaded c holds (run_with form f r before (Some f') (Some r') after outcome.Memory counted)
+    None (Some lacked) told
 refused form c f r f' r' before after counted failed lacked same also none flushed sound sound' =
     let p = runs_refused {E = Unit {0}} lacked form c f r f' r' before counted same also none in
     record {
@@ -172,9 +121,9 @@ refused form c f r f' r' before after counted failed lacked same also none flush
       untouched = λ at. absurd cc;
       names = tt;
       whole = λ ends told. absurd cc;
-      every = λ lane. run_every form c f r f' r' before before counted no_halt
+      every = λ lane. (run_keeps form c f r f' r' before before counted no_halt
           (Some (reading.Memory lacked)) None p after failed outcome.Memory flushed refl sound
-          sound' counted (none ∙ sym (ap (ended outcome.Memory) none));
+          sound' counted (none ∙ sym (ap (ended outcome.Memory) none))).every;
     }
 
 -- what holds of the names that a source has holds of those that were returned
@@ -201,39 +150,17 @@ pub closed : {S F G : Type 0} (state : S → SourceState) (fs : F → FeedState)
     r' ≡ option_map reverse_of e.source →
     {holds : Bool} →
     IsThreaded c holds (run_from state s before after e) e.unended e.refused (names_left state e) →
-    IsThreaded c holds (record {
-      form = form;
-      forward = fs f;
-      reverse = gs r;
-      outlets =
-          before;
-      forward_left = option_map fs f';
-      reverse_left = option_map gs r';
-      outlets_left =
-          after;
-      outcome = o;
-      counts = counted.counts;
-      tally = counted.tally;
-    }) u lacked told
+    IsThreaded c holds (run_with form (fs f) (gs r) before (option_map fs f') (option_map gs r')
+    after o counted) u lacked told
 closed state fs gs forward_of reverse_of first second form c s f r is before after e o counted f' r'
     u lacked told outcome_is counts_are ended witness names left right {holds} t =
     grind (arith, common_steps, names_told)
 
 -- a dealer whose lanes are new, over a source that nothing was read from
 pub can_deal : {S : Type 0} (tallied : Bool) (workers : ℕ) (c : Choices) (s : SourceState)
-    (dealer : Dealer S) (ready : Ready) → IsReady tallied workers dealer ready →
-    length dealer.to.items ≡ vec_len dealer.to →
-    IsFresh c s → s.most_bytes ≤ 2 ^ 60 → CanDeal c s dealer
-can_deal tallied workers c s dealer ready r len is few =
-    let some = r.some in let to = r.to in let closings = r.closings in
-    record {
-      room = (closings.0, omega (arith, closings.1));
-      deals = record {
-        some = omega arith;
-        lanes = to_dealt tallied (vec_len dealer.to) dealer.to.items _ _ len r.laid;
-        goes = subst GoesOn (sym is.fresh) (record { last = refl; within = omega arith });
-        fresh = ap (λ (z : SourceState). z.forward.given) is.fresh;
-        encoding = ap (λ (z : SourceState). z.encoding) is.fresh;
-        few = few;
-      };
-    }
+    (dealer : Dealer S) (lanes : Lanes) → AreLaidOut tallied workers lanes →
+    dealer.to ≡ lanes.seats.to → dealer.closings ≡ lanes.closings →
+    length dealer.to.items ≡ vec_len dealer.to → IsFresh c s → s.most_bytes ≤ 2 ^ 60 →
+    CanDeal c s dealer
+can_deal tallied workers c s dealer lanes r same also len is few =
+    grind (arith, common_steps, to_dealt)

@@ -1,4 +1,4 @@
--- A run on several threads: what is ready before its threads start, how it is concluded, and what
+-- A run on several threads: what is laid out before its threads start, how it is concluded, and what
 -- it guarantees.
 use Rattle.std.specs.Prelude.{◌≡◌, ◌≢◌, ◌≤◌, ◌<◌, ℕ, Bool, IsTrue, ◌↔◌, List, [], ◌∷◌, length, vec_len, vec_capacity}
 use Rattle.std.specs.Prelude.{Option, Some, None, IfSome, IsSome, Result, IsOkAnd}
@@ -26,12 +26,10 @@ use Rattle.fq_pair.specs.Walks.{SourceState}
 use Rattle.fq_run_core.specs.PairsRead.{fresh_source, feed_in}
 use Rattle.fq_run_core.specs.Writing.{occurred}
 use Rattle.fq_run.specs.declared.collector.Collector.{Collector}
-use Rattle.fq_run.specs.declared.dealer.Dealer.{Dealer}
 use Rattle.fq_run.specs.declared.dealer.dealt.Dealt.{Dealt}
 use Rattle.fq_run.specs.declared.conclusion.Conclusion.{Conclusion}
 use Rattle.fq_run_core.specs.declared.outcome.Outcome.TheVariants as outcome
 use Rattle.fq_run.specs.declared.lanes.Lanes.{Lanes}
-use Rattle.fq_run.specs.declared.ready.Ready.{Ready}
 use Rattle.fq_run.specs.declared.crew.Crew.{Crew}
 
 -- the lanes and tallies of the workers and the start lane are new, and there is room for what is
@@ -45,21 +43,6 @@ pub record AreLaidOut (tallied : Bool) (workers : ℕ) (lanes : Lanes) : Type 0 
   pub closings : (lanes.closings.items ≡ []) × (workers ≤ vec_capacity lanes.closings)
   pub hands : (lanes.hands.items ≡ []) × (workers ≤ vec_capacity lanes.hands)
   pub worked : (lanes.worked.items ≡ []) × (workers ≤ vec_capacity lanes.worked)
-
--- what the dealer takes and what the calling thread keeps: new lanes for the workers, a new start
--- lane, and room for what is handed back
-pub record IsReady {S : Type 0} (tallied : Bool) (workers : ℕ) (dealer : Dealer S)
-    (ready : Ready) : Type 0 where
-  pub some : 0 < workers
-  pub to : vec_len dealer.to ≡ workers
-  pub ends : vec_len ready.ends ≡ workers
-  pub replies : vec_len ready.replies ≡ workers
-  pub laid : Each3 (Laid tallied) dealer.to.items ready.ends.items ready.replies.items
-  pub start : dealer.start ≡ fresh ready.starter.name
-  pub starter : ready.starter ≡ fresh ready.starter.name
-  pub closings : (dealer.closings.items ≡ []) × (workers ≤ vec_capacity dealer.closings)
-  pub hands : (ready.hands.items ≡ []) × (workers ≤ vec_capacity ready.hands)
-  pub worked : (ready.worked.items ≡ []) × (workers ≤ vec_capacity ready.worked)
 
 -- a source that nothing was read from, over feeds that have not failed
 pub record IsFresh (c : Choices) (s : SourceState) : Type 0 where

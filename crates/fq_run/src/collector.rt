@@ -82,6 +82,7 @@ pub(crate) fn collect<R: Wait, O: Outlet>(
 
 impl Collector {
     // A collector that has taken nothing so far.
+    #[tactic(auto, using(std::proofs::lemmas::Grind::common_steps, crate::proofs::collector::CollectLemmas::no_stops))]
     fn new(total: Total, replies: Vec<CollectorEnds>) -> Collector
         requires none { total ≡ no_total (is_some total.tally) }
         requires some { 0 < vec_len replies }

@@ -25,29 +25,15 @@ impl<S> Conclusion<S> {
     ghost use Rattle.std.specs.Prelude.{◌≡◌, false, Some, None};
     ghost use Rattle.fq_run_core.specs.Totals.{no_total};
 
-    /// The conclusion of a run to which memory was refused before its threads were started.
-    pub(crate) fn refused(source: S, refused: MemoryRefused) -> Conclusion<S>
+    /// The conclusion of a run whose threads were not all started, because memory or a thread was
+    /// refused.
+    pub(crate) fn unstarted(
+        outcome: Outcome,
+        source: Option<S>,
+        refused: MemoryRefused,
+    ) -> Conclusion<S>
         ensures { result ≡ record {
-          outcome = Outcome.Memory;
-          total = no_total false;
-          source = Some source;
-          unended = None;
-          refused = Some refused;
-        } }
-    {
-        Conclusion {
-            outcome: Outcome::Memory,
-            total: Total::without_tally(),
-            source: Some(source),
-            unended: None,
-            refused: Some(refused),
-        }
-    }
-
-    /// The conclusion of a run whose threads could not all be started.
-    pub(crate) fn unstarted(source: Option<S>, refused: MemoryRefused) -> Conclusion<S>
-        ensures { result ≡ record {
-          outcome = Outcome.Spawn;
+          outcome = outcome;
           total = no_total false;
           source = source;
           unended = None;
@@ -55,7 +41,7 @@ impl<S> Conclusion<S> {
         } }
     {
         Conclusion {
-            outcome: Outcome::Spawn,
+            outcome,
             total: Total::without_tally(),
             source,
             unended: None,

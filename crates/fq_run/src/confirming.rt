@@ -38,6 +38,7 @@ fn confirm_start(started: Result<End<()>, NotEnded>, start: Rx<()>) -> Result<()
 }
 
 // Confirms the two lanes of each worker.
+#[tactic(auto, using(std::proofs::lemmas::Grind::common_steps, crate::proofs::EachLemmas::nothing_left))]
 fn confirm_workers(
     closings: Vec<Result<End<Block>, NotEnded>>,
     worked: Vec<Worked>,

@@ -65,6 +65,7 @@ pub(crate) fn deal<R: Wait, S: PairReader>(
 
 // Deals once the start item has come, and takes the start lane to its mark. If only the mark comes,
 // nothing is read.
+#[tactic(auto, using(std::proofs::lemmas::Grind::common_steps, crate::proofs::dealer::DealerLemmas::deals_nothing))]
 fn deal_from<R: Wait, S: PairReader>(
     alloc: Global,
     rt: &R,
@@ -104,6 +105,7 @@ fn pass_start<R: Wait>(rt: &R, start: &mut Rx<()>)
 }
 
 // Closes all lanes.
+#[tactic(auto, using(std::proofs::lemmas::Grind::common_steps, crate::proofs::EachLemmas::one_counted, crate::proofs::EachLemmas::zip_push))]
 fn close_all(
     to: Vec<DealerEnds>,
     closings: Vec<Result<End<Block>, NotEnded>>,

@@ -3,8 +3,6 @@
 pub(crate) mod seats;
 
 use crate::crew::job::Job;
-use crate::dealer::Dealer;
-use crate::ready::Ready;
 use fq_block::Block;
 use fq_lane::{End, NotEnded, Rx, Tx, lane};
 use fq_run_core::Settings;
@@ -53,38 +51,5 @@ impl Lanes {
             worked: Vec::with_capacity(alloc, workers)?,
             total: Total::new(alloc, settings.tallied())?,
         })
-    }
-
-    /// Splits the lanes into what the dealer takes and what the calling thread keeps.
-    pub(crate) fn over<S>(self, source: S) -> (Dealer<S>, Ready)
-        ensures source { result.0.source ≡ source }
-        ensures start { result.0.start ≡ self.start }
-        ensures to { result.0.to ≡ self.seats.to }
-        ensures closings { result.0.closings ≡ self.closings }
-        ensures ready { result.1 ≡ record {
-          starter = self.starter;
-          ends = self.seats.ends;
-          hands = self.hands;
-          worked = self.worked;
-          total = self.total;
-          replies = self.seats.replies;
-        } }
-    {
-        let seats = self.seats;
-        let dealer = Dealer {
-            start: self.start,
-            source,
-            to: seats.to,
-            closings: self.closings,
-        };
-        let ready = Ready {
-            starter: self.starter,
-            ends: seats.ends,
-            hands: self.hands,
-            worked: self.worked,
-            total: self.total,
-            replies: seats.replies,
-        };
-        (dealer, ready)
     }
 }

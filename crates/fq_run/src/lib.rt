@@ -12,7 +12,6 @@ mod two_texts;
 
 // What a run needs before its threads start.
 mod lanes;
-mod ready;
 
 // The threads of a run, in the order in which a block passes them.
 mod collector;

@@ -7,7 +7,7 @@ ghost use Rattle.fq_run.specs.Confirming.{CanConfirm};
 ghost use Rattle.fq_run_core.specs.Totals.{no_total};
 ghost use Rattle.fq_run_core.specs.Devices.{outlet_states, AreHealthy};
 ghost use Rattle.fq_run.specs.Each.{Each3};
-ghost use Rattle.fq_run.specs.Threads.{IsReady, tallies_from, IsFresh, IsManned, run_from, names_left, IsThreaded, Concludes};
+ghost use Rattle.fq_run.specs.Threads.{AreLaidOut, tallies_from, IsFresh, IsManned, run_from, names_left, IsThreaded, Concludes};
 
 use crate::collector::ends::CollectorEnds;
 use crate::collector::{Collector, collect};
@@ -19,7 +19,7 @@ use crate::dealer::Dealer;
 use crate::dealer::dealing::start_dealer;
 use crate::dealer::dealt::Dealt;
 use crate::lanes::Lanes;
-use crate::ready::Ready;
+use crate::lanes::seats::Seats;
 use fq_lane::{End, NotEnded};
 use fq_pair::{Out, PairReader};
 use fq_run_core::shared::{Occurred, Total};
@@ -58,11 +58,10 @@ pub(crate) fn run<
         Err(refused) => {
             // Refused memory comes before a failed flush in the order of `Outcome`.
             let _ = outlets.flush_after(None);
-            return Conclusion::refused(source, refused);
+            return Conclusion::unstarted(Outcome::Memory, Some(source), refused);
         }
     };
-    let (dealer, ready) = lanes.over(source);
-    start(alloc, rt, settings, gate, dealer, ready, outlets)
+    start(alloc, rt, settings, gate, source, lanes, outlets)
 }
 
 // Starts the threads, and writes on this thread, as the collector.
@@ -76,31 +75,39 @@ fn start<
     rt: &R,
     settings: &Settings,
     gate: &Arc<H>,
-    dealer: Dealer<S>,
-    ready: Ready,
+    source: S,
+    lanes: Lanes,
     outlets: &mut Outlets<O>,
 ) -> Conclusion<S>
-    requires ready { IsReady settings.now.tallied settings.now.workers dealer ready }
-    requires total { ready.total ≡ no_total settings.now.tallied }
-    requires fresh { IsFresh settings.now (S.state dealer.source) }
-    requires few { (S.state dealer.source).most_bytes ≤ text_limit }
+    requires lanes { AreLaidOut settings.now.tallied settings.now.workers lanes }
+    requires total { lanes.total ≡ no_total settings.now.tallied }
+    requires fresh { IsFresh settings.now (S.state source) }
+    requires few { (S.state source).most_bytes ≤ text_limit }
     requires outlets { AreHealthy (outlet_states O.state outlets.old) }
     ensures { IsThreaded settings.now (H.holds (arc_value gate.now))
-        (run_from S.state (S.state dealer.source)
+        (run_from S.state (S.state source)
         (outlet_states O.state outlets.old) (outlet_states O.state outlets.new) result)
         result.unended result.refused (names_left S.state result) }
 {
-    let Ready {
+    let Lanes {
         starter,
-        ends,
+        start,
+        seats,
+        closings,
         hands,
         worked,
         total,
-        replies,
-    } = ready;
+    } = lanes;
+    let Seats { to, ends, replies } = seats;
+    let dealer = Dealer {
+        start,
+        source,
+        to,
+        closings,
+    };
     let dealer = match start_dealer(alloc, rt, settings, dealer) {
         Ok(dealer) => dealer,
-        Err(refused) => return Conclusion::unstarted(None, refused),
+        Err(refused) => return Conclusion::unstarted(Outcome::Spawn, None, refused),
     };
     let hands = match start_workers(alloc, rt, settings, gate, ends, hands) {
         Ok(hands) => hands,
@@ -110,7 +117,7 @@ fn start<
             let _ = starter.close();
             let source = dealer.join(rt).into_unread();
             let _ = join_workers(rt, started, worked);
-            return Conclusion::unstarted(source, refused);
+            return Conclusion::unstarted(Outcome::Spawn, source, refused);
         }
     };
     let crew = Crew {

@@ -51,6 +51,7 @@ use std::thread::Threads;
 /// them, but both are lost if the reading thread could not be started.
 ///
 /// No device may have failed before the run.
+#[tactic(auto, using(std::proofs::lemmas::Grind::common_steps, crate::proofs::StartLemmas::none_of))]
 pub fn run_threads<
     R: Threads + Wait + Copy + Send + 'static,
     F: Feed + Drop + Send + 'static,

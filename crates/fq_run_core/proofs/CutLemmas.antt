@@ -131,9 +131,8 @@ module _ (check : Bool) (e : Encoding) where
         LeavesNone (n + length ms) forward' reverse' →
         length (mates_at n forward reverse) ≤ length ms
     at_most n [] forward reverse forward' reverse' p none = grind (arith, common_steps)
-    at_most n (m ∷ ms) forward reverse forward' reverse' p none =
-        one_more n m ms forward reverse forward' reverse' p.0 p.1 p.2 p.3 none
-        (λ fs rs. at_most (suc n) ms fs rs forward' reverse')
+    at_most n (m ∷ ms) forward reverse forward' reverse' p none = one_more n m ms forward reverse
+        forward' reverse' p.0 p.1 p.2 p.3 none (λ fs rs. at_most (suc n) ms fs rs forward' reverse')
         (pair_front check e n forward reverse) refl
 
 -- An interleaved text.
@@ -180,9 +179,8 @@ module _ (check : Bool) (e : Encoding) where
         Leads InterleavedText check e n ms (ls ++ more) same ls' same' →
         InterleavedNone (n + length ms) ls' → length (interleaved_at n ls) ≤ length ms
     interleaved_at_most n [] ls same ls' same' p none = grind (arith, common_steps)
-    interleaved_at_most n (m ∷ ms) ls same ls' same' p none =
-        interleaved_one_more n m ms ls same ls' same' p.0 p.1 p.2 p.3 none
-        (λ fs rs. interleaved_at_most (suc n) ms fs rs ls' same')
+    interleaved_at_most n (m ∷ ms) ls same ls' same' p none = interleaved_one_more n m ms ls same
+        ls' same' p.0 p.1 p.2 p.3 none (λ fs rs. interleaved_at_most (suc n) ms fs rs ls' same')
         (interleaved_front check e n ls) refl
 
 -- The records of the first lines of an interleaved text, up to the lines after its pairs.

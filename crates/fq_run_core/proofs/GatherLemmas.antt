@@ -4,7 +4,6 @@ use Rattle.std.specs.Option.{is_some}
 use Rattle.std.proofs.lemmas.List.{length-append}
 use Rattle.std.proofs.lemmas.Grind.{common_steps}
 use Rattle.fq_trim.specs.declared.step.Step.{Step}
-use Rattle.fq_pair.specs.declared.fault.InputFault.{InputFault}
 use Rattle.fq_text.specs.Grammar.{Read}
 use Rattle.fq_text.specs.declared.memory.MemoryRefused.{MemoryRefused}
 use Rattle.fq_pair.specs.Mates.{Mates, mates_in}
@@ -14,7 +13,7 @@ use Rattle.fq_report_pairs.specs.Results.{tally_with, made_of, with_mates}
 use Rattle.fq_report_pairs.proofs.ResultLemmas.{made_more, with_nothing, with_more}
 use Rattle.fq_run_core.specs.declared.reading_end.ReadingEnd.{ReadingEnd}
 use Rattle.fq_run_core.specs.declared.reading_end.ReadingEnd.TheVariants as reading
-use Rattle.fq_pair.specs.Walks.{SourceState, Walks, MeetsEnd, MeetsFault, GoesOn}
+use Rattle.fq_pair.specs.Walks.{SourceState, Walks, GoesOn}
 use Rattle.fq_run_core.specs.PairsRead.{Reads}
 use Rattle.fq_run_core.specs.Gathering.{Gathers}
 use Rattle.fq_run_core.proofs.WalkLemmas.{walks_none, walks_then}
@@ -39,8 +38,7 @@ module _ (steps : List Step) (tally : Option Tally) where
     len = refl;
     made = clear;
     tallied = sym (with_nothing steps tally);
-    walks =
-        walks_none s goes.last;
+    walks = walks_none s goes.last;
     goes = goes;
   }
 
@@ -61,9 +59,8 @@ module _ (steps : List Step) (tally : Option Tally) where
       record {
         block = g.block ++ m ∷ [];
         len = omega (arith, length-append g.block (m ∷ []));
-        made = is ∙ ap (λ (d : Done). with_mates steps d m) g.made
-            ∙ made_more steps done.number g.block m
-            ∙ ap (λ (i : ℕ). made_of steps i (g.block ++ m ∷ [])) number;
+        made = is ∙ ap (λ (d : Done). with_mates steps d m) g.made ∙ made_more steps done.number
+            g.block m ∙ ap (λ (i : ℕ). made_of steps i (g.block ++ m ∷ [])) number;
         tallied = counted ∙ ap (λ r. tally_with steps t (mates_in r reverse ∷ [])) first
             ∙ ap (λ r. tally_with steps t (mates_in m.forward r ∷ [])) second
             ∙ ap (λ (x : Option Tally). tally_with steps x (m ∷ [])) g.tallied
@@ -84,23 +81,10 @@ module _ (steps : List Step) (tally : Option Tally) where
   gathers_full old now t done n most full g = grind (arith, common_steps)
 
   -- reading stopped after the block
-  gathers_stopped : (old now next : SourceState) (t : Option Tally) (done : Done) (n most : ℕ)
+  pub gathers_stopped : (old now next : SourceState) (t : Option Tally) (done : Done) (n most : ℕ)
       (stop : ReadingEnd) → n < most → (g : Gathered old now steps tally t done n) →
       Reads old next g.block (Some stop) → Gathers old next steps most tally t done (Some stop)
   gathers_stopped old now next t done n most stop room g reads = grind (arith, common_steps)
-
-  -- the end of the input was found before the block was full
-  pub gathers_end : (old now next : SourceState) (t : Option Tally) (done : Done) (n most : ℕ) →
-      n < most → Gathered old now steps tally t done n → MeetsEnd now next →
-      Gathers old next steps most tally t done (Some reading.End)
-  gathers_end old now next t done n most room g e = grind (arith, common_steps)
-
-  -- a fault was found before the block was full
-  pub gathers_fault : (old now next : SourceState) (t : Option Tally) (done : Done) (n most : ℕ)
-      (why : InputFault) → n < most → Gathered old now steps tally t done n →
-      MeetsFault now next why →
-      Gathers old next steps most tally t done (Some (reading.Fault why))
-  gathers_fault old now next t done n most why room g e = grind (arith, common_steps)
 
   -- memory for one more pair was refused: that pair is lost, and the block is as it was
   pub gathers_refused : (refused : MemoryRefused) (old now next : SourceState) (t u : Option Tally)
@@ -110,13 +94,6 @@ module _ (steps : List Step) (tally : Option Tally) where
   gathers_refused refused old now next t u done then n most m room g w same kept =
       rw (same, kept) (gathers_stopped old now next t done n most (reading.Memory refused) room g
       (m ∷ [], walks_then old now next g.block (m ∷ []) g.walks w))
-
--- equal steps and bounds may be exchanged
-pub gathers_as : {old new : SourceState} {steps steps' : List Step} {most most' : ℕ}
-    {t u : Option Tally} {done : Done} {why : Option ReadingEnd} → steps' ≡ steps → most' ≡ most →
-    Gathers old new steps' most' t u done why → Gathers old new steps most t u done why
-gathers_as {old} {new} {steps} {steps'} {most} {most'} {t} {u} {done} {why} same bound g =
-    grind (arith, common_steps)
 
 -- why reading stopped, if it did
 pub end_is : (why : Option ReadingEnd) (there : Bool) → there ≡ is_some why → there ≡ true →

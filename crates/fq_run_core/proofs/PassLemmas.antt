@@ -1,9 +1,9 @@
 -- From the feeds to the outlets: blocks that are written one after another.
-use Rattle.std.proofs.Common.{◌≡◌, ◌-◌, ◌<◌, ◌≤◌, ◌^◌, Option, Some, None, Result, Ok, IfOk, List, [], ◌++◌, refl, sym, ap, ◌∙◌, arith, false}
+use Rattle.std.proofs.Common.{◌≡◌, ◌-◌, ◌<◌, ◌≤◌, ◌^◌, Option, Some, None, Ok, List, [], ◌++◌, refl, sym, ap, ◌∙◌, arith, false}
 use Rattle.std.proofs.lemmas.List.{append-nil}
 use Rattle.std.proofs.lemmas.Grind.{common_steps}
 use Rattle.fq_pair.specs.declared.out.Out.{Out}
-use Rattle.fq_pair.specs.Mates.{Mates, MateNames}
+use Rattle.fq_pair.specs.Mates.{Mates}
 use Rattle.fq_pair.specs.Summaries.{capped}
 use Rattle.fq_pair.specs.Outputs.{Outputs, texts_of, text_of}
 use Rattle.fq_report_pairs.specs.declared.done.Done.{Done}
@@ -23,11 +23,10 @@ use Rattle.fq_run_core.proofs.TotalLemmas.{some_pair, no_total_is, total_added, 
 use Rattle.fq_run_core.proofs.WalkLemmas.{walks_none, walks_then, reads_then}
 use Rattle.fq_pair.proofs.SideLemmas.{walked_records}
 use Rattle.fq_text.specs.declared.memory.MemoryRefused.{MemoryRefused}
-use Rattle.fq_run_core.specs.declared.halt.Halt.{Halt}
 use Rattle.fq_run_core.specs.declared.written.Written.{Written}
 use Rattle.fq_text.specs.Devices.{FeedState}
 use Rattle.fq_pair.specs.Forms.{Form}
-use Rattle.fq_run_core.specs.PairsRead.{fresh_source, feed_in}
+use Rattle.fq_run_core.specs.PairsRead.{fresh_source}
 use Rattle.fq_run_core.specs.declared.reading_end.ReadingEnd.TheVariants as reading
 
 -- Blocks that are written one after another.
@@ -68,8 +67,7 @@ module _ (c : Choices) (old : SourceState) (before : OutletStates) where
     pub passes_broken : {then : OutletStates} (failed : Out) → Wrote now after counted →
         Gathers now next c.steps c.block_pairs counted.tally total.tally done why →
         BreaksAt after then done.texts failed → total.counts ≡ counted.counts →
-        Passes c old next before then total no_halt why
-        (Some failed)
+        Passes c old next before then total no_halt why (Some failed)
     passes_broken {then} failed w g p is =
         let same =
         λ (out : Out). ap (λ (t : Outputs). text_of out (texts_of c.steps w.whole) ++ part_at
@@ -95,8 +93,7 @@ module _ (c : Choices) (old : SourceState) (before : OutletStates) where
 
     counts_block : (w : Wrote now after counted)
         (g : Gathers now next c.steps c.block_pairs counted.tally total.tally done why) →
-        old.forward.given ≡ 0 →
-        old.most_bytes ≤ 2 ^ 60 → c.block_pairs ≤ 65536 →
+        old.forward.given ≡ 0 → old.most_bytes ≤ 2 ^ 60 → c.block_pairs ≤ 65536 →
         total.counts ≡ capped counted.counts done.texts.counts →
         total ≡ total_of c.tallied c.steps (w.whole ++ g.block)
     counts_block w g none few most is =
@@ -134,10 +131,9 @@ module _ (c : Choices) (old : SourceState) (before : OutletStates) where
     -- another block is written, and more may come
     pub wrote_more : {then : OutletStates} → Wrote now after counted →
         Gathers now next c.steps c.block_pairs counted.tally total.tally done why →
-        OutletsTook after then (λ out. text_of out done.texts) None →
-        old.forward.given ≡ 0 → old.most_bytes ≤ 2 ^ 60 → c.block_pairs ≤ 65536 → why ≡ None →
-        total.counts ≡ capped counted.counts done.texts.counts →
-        Wrote next then total
+        OutletsTook after then (λ out. text_of out done.texts) None → old.forward.given ≡ 0 →
+        old.most_bytes ≤ 2 ^ 60 → c.block_pairs ≤ 65536 → why ≡ None →
+        total.counts ≡ capped counted.counts done.texts.counts → Wrote next then total
     wrote_more {then} w g p none few most going is =
         record {
           whole = w.whole ++ g.block;
@@ -150,9 +146,8 @@ module _ (c : Choices) (old : SourceState) (before : OutletStates) where
   -- each block brings the end nearer
   pub nearer : {now next : SourceState} {after : OutletStates} {counted : Total}
       {t u : Option Tally} {done : Done} {why : Option ReadingEnd} → Wrote now after counted →
-      Gathers now next c.steps c.block_pairs t u done why →
-      1 ≤ c.block_pairs → why ≡ None → old.most_bytes - next.forward.given < old.most_bytes -
-      now.forward.given
+      Gathers now next c.steps c.block_pairs t u done why → 1 ≤ c.block_pairs → why ≡ None →
+      old.most_bytes - next.forward.given < old.most_bytes - now.forward.given
   nearer {now} {next} {after} {counted} {t} {u} {done} {why} w g some going =
       grind (arith, common_steps)
 
@@ -205,14 +200,3 @@ pub runs_nothing : {E : Type 0} (refused : MemoryRefused) (form : Form) (c : Cho
     w ≡ nothing_written (Some (reading.Memory refused)) → f' ≡ f → r' ≡ r →
     Runs {E = E} form c f r f' r' o o w.total no_halt w.why w.failed (Ok None)
 runs_nothing refused form c f r f' r' o w is same also = grind (arith, common_steps, runs_refused)
-
--- what was read from a fresh source and written
-pub runs_passed : {E : Type 0} (form : Form) (c : Choices) (f r f' r' : FeedState)
-    (old new : SourceState) (before after : OutletStates) (counted : Total) (halt : Halt)
-    (why : Option ReadingEnd) (failed : Option Out) →
-    old ≡ fresh_source form c f r → f' ≡ feed_in new.forward → r' ≡ feed_in new.reverse →
-    Passes c old new before after counted halt why failed →
-    (names : Result (Option MateNames) E) → IfOk names (λ held. held ≡ new.names) →
-    Runs form c f r f' r' before after counted halt why failed names
-runs_passed form c f r f' r' old new before after counted halt why failed is first second p names
-    held = grind (arith, common_steps)

@@ -61,8 +61,7 @@ Verdict halt why failed (Endless side) =
 Verdict halt why failed (Input fault) =
     (why ≡ Some (reading.Fault fault)) × (failed ≡ None) × (halt ≡ no_halt)
     × (is_from_outside fault ≡ false)
-Verdict halt why failed Finished =
-    (why ≡ Some reading.End) × (failed ≡ None) × (halt ≡ no_halt)
+Verdict halt why failed Finished = (why ≡ Some reading.End) × (failed ≡ None) × (halt ≡ no_halt)
 Verdict halt why failed _ = ⊥
 
 abbrev halt_of : Bool → Option MemoryRefused → Halt
@@ -80,8 +79,7 @@ verdict_of false None why (Some out) over = (refl, refl, refl)
 verdict_of false None None None over = absurd (over refl refl)
 verdict_of false None (Some reading.End) None over = (refl, refl, refl)
 verdict_of false None (Some (reading.Fault (Text side text.Read))) None over = (refl, refl, refl)
-verdict_of false None (Some (reading.Fault (Text side text.Endless))) None over =
-    (refl, refl, refl)
+verdict_of false None (Some (reading.Fault (Text side text.Endless))) None over = (refl, refl, refl)
 verdict_of false None (Some (reading.Fault fault)) None over = (refl, refl, refl, refl)
 
 -- a run in which reading stopped, or an outlet failed, has its outcome for one of these reasons
@@ -225,6 +223,42 @@ module _ (c : Choices) (old new : SourceState) (before mid after : OutletStates)
         missed_none = λ sound empty. p.missed_none sound refl;
       }
 
+-- a run, by its form, its feeds and outlets before and after it, its outcome and its total
+abbrev pub run_with : Form → FeedState → FeedState → OutletStates → Option FeedState →
+    Option FeedState → OutletStates → Outcome → Total → Run
+run_with form f r before f' r' after o total = record {
+  form = form;
+  forward = f;
+  reverse = r;
+  outlets = before;
+  forward_left = f';
+  reverse_left = r';
+  outlets_left = after;
+  outcome = o;
+  counts = total.counts;
+  tally = total.tally;
+}
+
+-- what a run guarantees if all its lanes are confirmed. A serial run has no lanes.
+pub record Keeps (c : Choices) (run : Run) (halt : Halt) (held : Option MateNames) : Type 0 where
+  -- the outcome is not `Spawn` or `Lane`
+  pub started : 3 ≤ rank run.outcome
+  -- if no worker stopped, it is not `Gate` either
+  pub serial : halt ≡ no_halt → 4 ≤ rank run.outcome
+  pub gate : run.outcome ≡ outcome.Gate → halt.gate ≡ true
+  -- names that it returns are those of the pair with the number in its outcome
+  pub names : (told : Option MateNames) (lacked : Option MemoryRefused) →
+      (is_unmatched run.outcome ≡ true → TellsNames held told lacked) →
+      AreItsNames run.form c.encoding run.forward run.reverse run.outcome told lacked
+  pub every : EveryEnding c run
+  pub whole : IsTrue (ends_whole run.outcome) → AreTold run → IsTrimmed c run
+
+-- what holds of names that a source has holds of those that were returned
+told_names : (held told : Option MateNames) (lacked : Option MemoryRefused)
+    (P : MateNames → Type 0) → TellsNames held told lacked → IsSomeAnd held P →
+    MatchOption told (IsSome lacked) P
+told_names held told lacked P tells is = grind (arith, common_steps)
+
 -- the beginning of a beginning
 first_of : (ms ns all : List Mates) → AreFirst (ms ++ ns) all → AreFirst ms all
 first_of ms ns all p = (ns ++ p.0, p.1 ∙ append_assoc ms ns p.0)
@@ -241,18 +275,8 @@ module _ (form : Form) (c : Choices) (f r : FeedState) (new : SourceState)
     (v : Verdict halt why failed o) (sound : f.failures ≡ 0) (sound' : r.failures ≡ 0) where
   -- the run
   abbrev pub run : Run
-  run = record {
-    form = form;
-    forward = f;
-    reverse = r;
-    outlets = before;
-    forward_left = Some (feed_in new.forward);
-    reverse_left = Some (feed_in new.reverse);
-    outlets_left = after;
-    outcome = o;
-    counts = counted.counts;
-    tally = tally_at o counted.tally;
-  }
+  run = run_with form f r before (Some (feed_in new.forward)) (Some (feed_in new.reverse)) after o
+      (ended o counted)
 
   -- all pairs that were read
   abbrev all_read : List Mates
@@ -316,8 +340,7 @@ module _ (form : Form) (c : Choices) (f r : FeedState) (new : SourceState)
 
   failed_once_at : (side : Side) → why ≡ Some (reading.Fault (Text side text.Read)) →
       failures_in (feed_left side run) ≡ 1
-  failed_once_at side is =
-      failures_are side ∙ ap (failed_by form side) is ∙ read_once form side
+  failed_once_at side is = failures_are side ∙ ap (failed_by form side) is ∙ read_once form side
 
   -- what was written if a flush failed
   came : AreTold run → (w : Option ReadingEnd) → why ≡ w → (why ≡ None → ⊥) →
@@ -373,14 +396,13 @@ module _ (form : Form) (c : Choices) (f r : FeedState) (new : SourceState)
   -- the tally is that of the pairs that were written, if the run ended whole
   tally_is : (x : Outcome) → Verdict halt why failed x →
       tally_at x counted.tally ≡ tally_if (c.tallied && ends_whole x) c.steps p.whole
-  tally_is (outcome.Input fault) w =
-      rw and-true (p.counts.tally w.2 w.1 (ap refused_in w.0))
+  tally_is (outcome.Input fault) w = rw and-true (p.counts.tally w.2 w.1 (ap refused_in w.0))
   tally_is outcome.Finished w = rw and-true (p.counts.tally w.2 w.1 (ap refused_in w.0))
   tally_is _ w = rw and-false refl
 
   -- what holds at every ending
-  pub every : EveryEnding c run
-  every = record {
+  every_is : EveryEnding c run
+  every_is = record {
     whole = p.whole;
     fate = p.fate;
     counts = p.counts.counts;
@@ -427,24 +449,31 @@ module _ (form : Form) (c : Choices) (f r : FeedState) (new : SourceState)
       trimmed_all told w.1 w.2 (ap refused_in w.0) (Some fault)
       (reads_fault form c f r new all_read fault (reads_at (reading.Fault fault) w.0) w.3
       told.forward told.reverse) is
-  trimmed_by outcome.Finished is w ends told =
-      trimmed_all told w.1 w.2 (ap refused_in w.0) None
+  trimmed_by outcome.Finished is w ends told = trimmed_all told w.1 w.2 (ap refused_in w.0) None
       (reads_end form c f r new all_read (reads_at reading.End w.0) told.forward told.reverse) is
   trimmed_by _ is w ends told = absurd cc
 
-  -- all pairs are trimmed if the outcome is `Finished`, or a fault in the input
-  pub trimmed : IsTrue (ends_whole o) → AreTold run → IsTrimmed c run
-  trimmed ends told = trimmed_by o refl v ends told
+  names_are : (told : Option MateNames) (lacked : Option MemoryRefused) →
+      (is_unmatched o ≡ true → TellsNames new.names told lacked) → (x : Outcome) → o ≡ x →
+      AreItsNames form c.encoding f r x told lacked
+  names_are told lacked tells (Input (NamesDiffer k)) is =
+      let w = at (Input (NamesDiffer k)) is in
+      told_names new.names told lacked _ (tells (ap is_unmatched is))
+      (reads_names form c f r new all_read k (reads_at (reading.Fault (NamesDiffer k)) w.0))
+  names_are told lacked tells _ is = tt
 
--- What a run guarantees if all its lanes are confirmed. A serial run has no lanes.
+  -- what the run guarantees, from what it read and wrote
+  pub keeps : Keeps c run halt new.names
+  keeps = record {
+    started = least halt why failed o v;
+    serial = λ sound. is_serial halt why failed o sound v;
+    gate = at outcome.Gate;
+    names = λ told lacked tells. names_are told lacked tells o refl;
+    every = every_is;
+    whole = trimmed_by o refl v;
+  }
 
--- what holds of names that a source has holds of those that were returned
-told_names : (held told : Option MateNames) (lacked : Option MemoryRefused)
-    (P : MateNames → Type 0) → TellsNames held told lacked → IsSomeAnd held P →
-    MatchOption told (IsSome lacked) P
-told_names held told lacked P tells is = grind (arith, common_steps)
-
--- they are told if memory for them wasn't refused
+-- names are told if memory for them wasn't refused
 pub tells_names : {E : Type 0} (names : Result (Option MateNames) E) (held told : Option MateNames)
     (lacked : Option MemoryRefused) → IfOk names (λ x. x ≡ held) →
     MatchResult names (λ x. told ≡ x) (λ e. (told ≡ None) × IsSome lacked) →
@@ -463,63 +492,13 @@ module _ (form : Form) (c : Choices) (f r f' r' : FeedState) (before mid : Outle
       (λ out. text_of out (texts_of c.steps q.whole) ++ part_begun c.steps q.fate out) b in
       still_healthy before mid _ h (subst P (sym q.failed ∙ none) q.took)
 
-  module _ (after : OutletStates) (failed : Option Out) (o : Outcome)
-      (q : FlushesAfter broken mid after failed) (is : o ≡ outcome_of (occurred halt why failed))
-      (sound : f.failures ≡ 0) (sound' : r.failures ≡ 0) (total : Total)
-      (at_end : total ≡ ended o counted) where
-    -- the run
-    abbrev pub run_with : FeedState → FeedState → Run
-    run_with x y = record {
-      form = form;
-      forward = f;
-      reverse = r;
-      outlets = before;
-      forward_left = Some x;
-      reverse_left = Some y;
-      outlets_left = after;
-      outcome = o;
-      counts = total.counts;
-      tally = total.tally;
-    }
-
-    closed : Closes c (fresh_source form c f r) p.new before after counted halt why failed
-    closed = closes c (fresh_source form c f r) p.new before mid after counted halt why broken
-        failed p.passes q
-
-    judged : Verdict halt why failed o
-    judged = let d = closed in rw is (verdict halt why failed d.over)
-
-    -- the outcome is not `Spawn` or `Lane`
-    pub run_rank : 3 ≤ rank o
-    run_rank = least halt why failed o judged
-
-    -- if no worker stopped, it is not `Gate` either
-    pub serial_rank : halt ≡ no_halt → 4 ≤ rank o
-    serial_rank sound = is_serial halt why failed o sound judged
-
-    -- names that it returns are those of the pair with the number in its outcome
-    pub run_names : (told : Option MateNames) (lacked : Option MemoryRefused) →
-        (is_unmatched o ≡ true → TellsNames p.new.names told lacked) →
-        AreItsNames form c.encoding f r o told lacked
-    run_names told lacked tells = by_outcome o refl
-      where
-        by_outcome : (x : Outcome) → o ≡ x → AreItsNames form c.encoding f r x told lacked
-        by_outcome (Input (NamesDiffer k)) at =
-            let q = p.passes in
-            let v = subst (Verdict halt why failed) at judged in
-            told_names p.new.names told lacked _ (tells (ap is_unmatched at))
-            (reads_names form c f r p.new _ k (rw v.0 at q.reads))
-        by_outcome _ at = tt
-
-    -- what holds at every ending holds of this run
-    pub run_every : EveryEnding c (run_with f' r')
-    run_every = rw (at_end, p.forward, p.reverse) (every form c f r p.new before after counted halt
-        why failed o closed judged sound sound')
-
-    -- if this run ends at the end of the input, or at a fault in it, it has trimmed all pairs
-    pub run_whole : IsTrue (ends_whole o) → AreTold (run_with f' r') → IsTrimmed c (run_with f' r')
-    run_whole ends told = rw (at_end, p.forward, p.reverse) (trimmed form c f r p.new before after
-        counted halt why failed o closed judged sound sound' ends (record {
-          forward = told.forward;
-          reverse = told.reverse;
-        }))
+  -- what a run guarantees once its outlets are flushed
+  pub run_keeps : (after : OutletStates) (failed : Option Out) (o : Outcome) →
+      FlushesAfter broken mid after failed → o ≡ outcome_of (occurred halt why failed) →
+      f.failures ≡ 0 → r.failures ≡ 0 → (total : Total) → total ≡ ended o counted →
+      Keeps c (run_with form f r before (Some f') (Some r') after o total) halt p.new.names
+  run_keeps after failed o q is sound sound' total at_end =
+      let d = closes c (fresh_source form c f r) p.new before mid after counted halt why broken
+      failed p.passes q in
+      rw (at_end, p.forward, p.reverse) (keeps form c f r p.new before after counted halt why
+      failed o d (rw is (verdict halt why failed d.over)) sound sound')

@@ -18,9 +18,8 @@ use Rattle.fq_run_core.specs.PairsRead.{Reads}
 -- Both.
 
 leads_then : (form : Form) (check : Bool) (e : Encoding) (m n : ℕ) (ms ns : List Mates)
-    (f r f' r' f'' r'' : List (List ℕ)) → n ≡ m + length ms →
-    Leads form check e m ms f r f' r' → Leads form check e n ns f' r' f'' r'' →
-    Leads form check e m (ms ++ ns) f r f'' r''
+    (f r f' r' f'' r'' : List (List ℕ)) → n ≡ m + length ms → Leads form check e m ms f r f' r' →
+    Leads form check e n ns f' r' f'' r'' → Leads form check e m (ms ++ ns) f r f'' r''
 leads_then form check e m n [] ns f r f' r' f'' r'' is p q = grind (arith, common_steps)
 leads_then form check e m n (x ∷ ms) ns f r f' r' f'' r'' is p q =
     grind (arith, common_steps, leads_then form check e (suc m) n ms ns p.0 p.1 f' r' f'' r'')

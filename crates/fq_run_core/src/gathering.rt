@@ -15,6 +15,7 @@ use fq_trim::Steps;
 /// there is a tally.
 ///
 /// Returns why reading stopped, or `None` after `most` pairs.
+#[tactic(auto, using(std::proofs::lemmas::Grind::common_steps, crate::proofs::WalkLemmas::is_in_hand, crate::proofs::WalkLemmas::if_in_hand, crate::proofs::GatherLemmas::gathered_none, crate::proofs::GatherLemmas::gathered_few, crate::proofs::GatherLemmas::gathers_stopped, crate::proofs::GatherLemmas::gathers_full))]
 pub(crate) fn gather<S: PairReader>(
     source: &mut S,
     steps: &Steps,

@@ -33,6 +33,7 @@ impl<O: Outlet> Outlets<O> {
     ///
     /// The outlets before that one have then taken their texts, that one the beginning of its text,
     /// and those after it nothing. The log is written only if it has an outlet.
+    #[tactic(auto, using(std::proofs::lemmas::Grind::common_steps, crate::proofs::OutletLemmas::fourth_breaks, crate::proofs::OutletLemmas::broken))]
     pub fn write(&mut self, texts: &Texts) -> Result<(), Out>
         requires { AreHealthy (outlet_states O.state self.old) }
         ensures { Sends (outlet_states O.state self.old)

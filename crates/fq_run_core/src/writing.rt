@@ -38,32 +38,14 @@ pub(crate) fn write_blocks<S: PairReader, O: Outlet>(
         (outlet_states O.state outlets.old) (outlet_states O.state outlets.new) result }
 {
     let mut written = Written::nothing(None);
-    write_counted(alloc, settings, source, outlets, &mut written);
+    let mut done = Done::new(alloc, 0);
+    write_with(alloc, settings, source, outlets, &mut written, &mut done);
     written
 }
 
-// Does the work of `write_blocks` on a borrowed result, which says so far that nothing was read or
-// written.
-fn write_counted<S: PairReader, O: Outlet>(
-    alloc: Global,
-    settings: &Settings,
-    source: &mut S,
-    outlets: &mut Outlets<O>,
-    written: &mut Written,
-)
-    requires goes { GoesOn (S.state source.old) }
-    requires fresh { (S.state source.old).forward.given ≡ 0 }
-    requires few { (S.state source.old).most_bytes ≤ text_limit }
-    requires outlets { AreHealthy (outlet_states O.state outlets.old) }
-    requires nothing { written.old ≡ nothing_written None }
-    ensures { HasWritten settings.now (S.state source.old) (S.state source.new)
-        (outlet_states O.state outlets.old) (outlet_states O.state outlets.new) written.new }
-{
-    let mut done = Done::new(alloc, 0);
-    write_with(alloc, settings, source, outlets, written, &mut done);
-}
-
-// Does the work of `write_counted` with borrowed room for the texts of a block.
+// Does the work of `write_blocks` with borrowed room for the texts of a block, on a borrowed result,
+// which says so far that nothing was read or written.
+#[tactic(auto, using(std::proofs::lemmas::Grind::common_steps, crate::proofs::PassLemmas::passes_unasked))]
 fn write_with<S: PairReader, O: Outlet>(
     alloc: Global,
     settings: &Settings,
@@ -91,6 +73,7 @@ fn write_with<S: PairReader, O: Outlet>(
 
 // Reads and writes block by block, and counts each block that is written completely. Returns why
 // reading stopped, if it did, and the outlet whose write failed, if one did.
+#[tactic(auto, using(std::proofs::lemmas::Grind::common_steps, crate::proofs::PassLemmas::wrote_none, crate::proofs::PassLemmas::nearer, crate::proofs::GatherLemmas::end_none))]
 fn write_each<S: PairReader, O: Outlet>(
     settings: &Settings,
     source: &mut S,

@@ -88,15 +88,13 @@ none_come : (why : Cause) (ls : List (History Reply)) →
     ((j : ℕ) (d : History Reply) → j < length ls → (get_or ls j d).items ≡ []) →
     has_come why ls ≡ false
 none_come why [] h = refl
-none_come why (l ∷ ls) h =
-    ap (λ is. list_any (is_stop why) is || has_come why ls) (h 0 l (omega arith))
-    ∙ none_come why ls (λ j d lt. h (suc j) d (omega arith))
+none_come why (l ∷ ls) h = ap (λ is. list_any (is_stop why) is || has_come why ls)
+    (h 0 l (omega arith)) ∙ none_come why ls (λ j d lt. h (suc j) d (omega arith))
 
 -- no stop came through lanes that have carried nothing
 pub no_stops : (ls : List (History Reply)) → IsDealt (length ls) [] ls →
     stops_of ls ≡ record { gate = false; memory = None }
-no_stops ls h =
-    same_halt _ _ _ _ (none_come Gate ls (λ j d lt. h.items j d lt))
+no_stops ls h = same_halt _ _ _ _ (none_come Gate ls (λ j d lt. h.items j d lt))
     (none_come (Memory witness) ls (λ j d lt. h.items j d lt))
 
 -- One more reply.

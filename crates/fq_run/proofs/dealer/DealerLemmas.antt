@@ -4,11 +4,10 @@ use Rattle.std.proofs.lemmas.List.{length-append, append-nil, map-append, set-ge
 use Rattle.std.proofs.lemmas.Grind.{common_steps}
 use Rattle.fq_text.specs.declared.memory.MemoryRefused.{MemoryRefused}
 use Rattle.fq_block.specs.Blocks.{Numbered}
-use Rattle.fq_pair.specs.declared.fault.InputFault.{InputFault}
 use Rattle.fq_pair.specs.Mates.{Mates}
 use Rattle.fq_run_core.specs.declared.reading_end.ReadingEnd.{ReadingEnd}
 use Rattle.fq_run.specs.dealer.Filling.{Fills}
-use Rattle.fq_pair.specs.Walks.{SourceState, Walks, MeetsEnd, MeetsFault, GoesOn}
+use Rattle.fq_pair.specs.Walks.{SourceState, Walks, GoesOn}
 use Rattle.fq_run_core.specs.PairsRead.{Reads}
 use Rattle.fq_run_core.proofs.WalkLemmas.{walks_none, walks_then, reads_then}
 use Rattle.fq_pair.proofs.SideLemmas.{walked_records}
@@ -36,29 +35,18 @@ pub record Filled (old now : SourceState) (empty block : Numbered) (n : ℕ) : T
 
 -- one more pair
 abbrev pub pushed : Numbered → Mates → Numbered
-pushed block m = record {
-  number = block.number;
-  encoding = block.encoding;
-  pairs =
-      block.pairs ++ m ∷ [];
-}
+pushed block m =
+    record { number = block.number; encoding = block.encoding; pairs = block.pairs ++ m ∷ [] }
 
 -- an empty block is one into which no pair was read yet
 pub filled_none : (s : SourceState) (block : Numbered) → GoesOn s → block.pairs ≡ [] →
     Filled s s block block 0
-filled_none s block goes clear = record {
-  number = refl;
-  encoding = refl;
-  len = ap length clear;
-  walks = rw clear (walks_none s goes.last);
-  goes = goes;
-}
+filled_none s block goes clear = grind (arith, common_steps, walks_none)
 
 -- one more pair was read, and is in the block
 pub filled_more : (old now next : SourceState) (empty block then : Numbered) (n : ℕ) (m : Mates) →
-    Filled old now empty block n → Walks now next (m ∷ []) →
-    next.forward.given ≤ next.most_bytes → then ≡ pushed block m →
-    Filled old next empty then (n + 1)
+    Filled old now empty block n → Walks now next (m ∷ []) → next.forward.given ≤ next.most_bytes →
+    then ≡ pushed block m → Filled old next empty then (n + 1)
 filled_more old now next empty block then n m f w within is =
     let len = f.len in
     rw is (record {
@@ -90,25 +78,13 @@ module _ (old now : SourceState) (empty block : Numbered) (n most : ℕ)
   fills_full full = grind (arith, common_steps, filled_within old now empty block n f)
 
   -- reading stopped after the block
-  fills_stopped : (next : SourceState) (stop : ReadingEnd) → n < most →
+  pub fills_stopped : (next : SourceState) (stop : ReadingEnd) → n < most →
       Reads old next block.pairs (Some stop) →
       ((refused : MemoryRefused) → stop ≡ reading.Memory refused →
       next.given ≡ old.given + length block.pairs + 1) →
       Fills old next most empty block (Some stop)
   fills_stopped next stop room reads lost =
       grind (arith, common_steps, filled_within old now empty block n f)
-
-  -- the end of the input was found before the block was full
-  pub fills_end : (next : SourceState) → n < most → MeetsEnd now next →
-      Fills old next most empty block (Some reading.End)
-  fills_end next room e = fills_stopped next reading.End room (now, f.walks, e)
-      (λ refused is. absurd cc)
-
-  -- a fault was found before the block was full
-  pub fills_fault : (next : SourceState) (why : InputFault) → n < most → MeetsFault now next why →
-      Fills old next most empty block (Some (reading.Fault why))
-  fills_fault next why room e = fills_stopped next (reading.Fault why) room (now, f.walks, e)
-      (λ refused is. absurd cc)
 
   -- memory for one more pair was refused: that pair is lost, and the block is as it was
   pub fills_refused : (refused : MemoryRefused) (next : SourceState) (then : Numbered) (m : Mates) →
@@ -119,12 +95,6 @@ module _ (old now : SourceState) (empty block : Numbered) (n most : ℕ)
       let given = walks.given in
       rw same (fills_stopped next (reading.Memory refused) room (m ∷ [], walks)
       (λ again is. omega (arith, length-append block.pairs (m ∷ []))))
-
--- equal bounds may be exchanged
-pub fills_as : (old new : SourceState) (most most' : ℕ) (empty block : Numbered)
-    (why : Option ReadingEnd) → most' ≡ most → Fills old new most' empty block why →
-    Fills old new most empty block why
-fills_as old new most most' empty block why same f = rw same at f
 
 -- Cutting.
 
@@ -197,9 +167,6 @@ module _ (c : Choices) (old : SourceState) (to : List (History Numbered)) where
     -- the next block has this number
     pub number_is : number ≡ length blocks
 
-  fresh_lanes : (w : ℕ) → IsDealt w [] to → IsDealt (length to) [] to
-  fresh_lanes w fresh = rw fresh.lanes fresh
-
   -- before the first block nothing is read or dealt out, and it is the first lane's turn
   pub deals_none : GoesOn old → (w : ℕ) → 0 < w → IsDealt w [] to → DealsFull old to 0 0
   deals_none goes w some fresh = let lanes = fresh.lanes in record {
@@ -211,7 +178,7 @@ module _ (c : Choices) (old : SourceState) (to : List (History Numbered)) where
     full = tt;
     numbered = tt;
     few = omega arith;
-    dealt = fresh_lanes w fresh;
+    dealt = rw fresh.lanes fresh;
     names = refl;
     turn_is = sym (zero-mod (length to));
     below = omega arith;
@@ -339,6 +306,6 @@ module _ (c : Choices) (old : SourceState) (to : List (History Numbered)) where
     lost = λ refused is. absurd cc;
     few = omega arith;
     cut = record { cut = record { joined = refl; even = tt }; numbered = tt };
-    dealt = fresh_lanes w fresh;
+    dealt = rw fresh.lanes fresh;
     names = refl;
   }

@@ -46,12 +46,11 @@ module _ {T : Type 0} where
   set_at : (ls : List (History T)) (j i : ℕ) (l d : History T) (P : History T → Type 0) →
       j < length ls → (i ≡ j → P l) → ((i ≡ j → ⊥) → P (get_or ls i d)) →
       P (get_or (set ls j l) i d)
-  set_at ls j i l d P lt here there =
-      elim (cases_eq i j) [
-        | inl e ↦ subst P (sym (ap (λ k. get_or (set ls j l) k d) e ∙ get_or-set_same ls j l d lt))
-            (here e)
-        | inr n ↦ subst P (sym (get_or-set_other ls j i l d n)) (there n)
-      ]
+  set_at ls j i l d P lt here there = elim (cases_eq i j) [
+    | inl e ↦ subst P (sym (ap (λ k. get_or (set ls j l) k d) e ∙ get_or-set_same ls j l d lt))
+        (here e)
+    | inr n ↦ subst P (sym (get_or-set_other ls j i l d n)) (there n)
+  ]
 
   names-set : (ls : List (History T)) (j : ℕ) (l : History T) → l.name ≡ (get_or ls j l).name →
       names_of (set ls j l) ≡ names_of ls
@@ -80,11 +79,8 @@ module _ {T : Type 0} where
       (λ n. follows_same _ _ refl))
 
   prefix_trans : (xs ys zs : List T) → IsPrefix xs ys → IsPrefix ys zs → IsPrefix xs zs
-  prefix_trans xs ys zs p q = (
-    p.0 ++ q.0,
-    sym (append_assoc xs p.0 q.0) ∙ ap (λ us. us ++ q.0) p.1
-        ∙ q.1,
-  )
+  prefix_trans xs ys zs p q =
+      (p.0 ++ q.0, sym (append_assoc xs p.0 q.0) ∙ ap (λ us. us ++ q.0) p.1 ∙ q.1)
 
   -- once the lane whose turn it is has closed, no more comes in turn
   pub at_mark_closed : (w : ℕ) (xs : List T) (old new : List (History T)) (j : ℕ) →
@@ -99,8 +95,7 @@ module _ {T : Type 0} where
         lanes = takes_length Closed old new j t ∙ h.lanes;
         begins = λ i d below. prefix_trans _ _ _ (
           [],
-          append-nil (every i w xs)
-              ∙ sym (h.items i d below),
+          append-nil (every i w xs) ∙ sym (h.items i d below),
         ) (takes_follow Closed old new j t within i d).begins;
         ends = λ d. rw (← turn) (ap (λ l. l.items) (at_j d) ∙ items_j);
         closed = λ d. rw (← turn) (ap (λ l. l.marked) (at_j d) ∙ ap (λ l. l.marked) t.takes);

@@ -17,6 +17,7 @@ use std::thread::{PromisedHandle, Threads};
 
 /// Starts a worker for each seat, and returns their handles. If one was refused, returns the
 /// handles of those that were started before it, and the witness of that.
+#[tactic(auto, using(std::proofs::lemmas::Grind::common_steps, crate::proofs::EachLemmas::one_counted, crate::proofs::EachLemmas::zip_push))]
 pub(crate) fn start_workers<R: Threads + Wait + Copy + Send + 'static, H: Gate + 'static>(
     alloc: Global,
     rt: &R,
@@ -78,6 +79,7 @@ fn start_worker<R: Threads + Wait + Copy + Send + 'static, H: Gate + 'static>(
 }
 
 /// Waits for all workers.
+#[tactic(auto, using(std::proofs::lemmas::Grind::common_steps, crate::proofs::EachLemmas::one_counted, crate::proofs::EachLemmas::zip_push))]
 pub(crate) fn join_workers<R: Threads>(
     rt: &R,
     hands: Vec<PromisedHandle<Worked, Job>>,

@@ -13,6 +13,7 @@ use fq_text::MemoryRefused;
 ///
 /// Returns why reading stopped, or `None` if the block has `most` pairs. If memory for a pair is
 /// refused, that pair is lost; the pairs before it stay in the block.
+#[tactic(auto, using(std::proofs::lemmas::Grind::common_steps, fq_run_core::proofs::WalkLemmas::is_in_hand, fq_run_core::proofs::WalkLemmas::if_in_hand, crate::proofs::dealer::DealerLemmas::filled_none, crate::proofs::dealer::DealerLemmas::filled_encoding, crate::proofs::dealer::DealerLemmas::fills_stopped, crate::proofs::dealer::DealerLemmas::fills_full))]
 pub(crate) fn fill<S: PairReader>(
     source: &mut S,
     most: u64,

@@ -82,6 +82,7 @@ impl Seats {
     }
 
     // Adds the lanes of one more worker, and its tally.
+    #[tactic(auto, using(std::proofs::lemmas::Grind::common_steps, crate::proofs::EachLemmas::each3_push, crate::proofs::EachLemmas::fresh_is))]
     fn add(&mut self, alloc: Global, depth: usize, tallied: bool) -> Result<(), OutOfMemory>
         requires depth { (1 ≤ depth) × (depth ≤ MOST_ROOM) }
         requires laid { IsLaid tallied self.old }

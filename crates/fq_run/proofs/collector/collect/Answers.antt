@@ -105,9 +105,8 @@ module _ {T : Type 0} where
   gathers n (suc m) [] ((x ∷ l) ∷ ls) le h = grind (arith, common_steps)
   gathers n (suc m) (x ∷ xs) [] le h = let e = h.lists.lanes in absurd (omega arith)
   gathers n (suc m) (x ∷ xs) ([] ∷ ls) le h = let p = (h.lists.begins 0 (omega arith)).1 in cc
-  gathers n (suc m) (x ∷ xs) ((y ∷ l) ∷ ls) le h =
-      ap (λ z. z ∷ gather_turns m (ls ++ l ∷ [])) (same_first n x y xs l ls h.lists)
-      ∙ ap (λ zs. x ∷ zs)
+  gathers n (suc m) (x ∷ xs) ((y ∷ l) ∷ ls) le h = ap (λ z. z ∷ gather_turns m (ls ++ l ∷ []))
+      (same_first n x y xs l ls h.lists) ∙ ap (λ zs. x ∷ zs)
       (gathers n m xs (ls ++ l ∷ []) (omega arith) (turned_end n x y xs l ls h))
 
   -- if lists begin with what was dealt to them, the gathered list begins with all that was dealt
@@ -210,8 +209,7 @@ write_all-requires-clause-collects g c =
 
 -- if no write failed, the outlets took the replies before the first stop, gathered in turn
 pub returns-clause-written : goal.returns-clause-written
-returns-clause-written g c = λ sound.
-    (let drains = c.drain.ensures.drains in
+returns-clause-written g c = λ sound. (let drains = c.drain.ensures.drains in
     let h = drains.collects _ _ _ _ c.write_all.ensures.collects in
     written_gathers _ c.drain.new.self.phase _ _ h.written c.drain.new.self (omega (arith, h.turn))
     (λ at. c.write_all.ensures.over (sym drains.phase ∙ at)) sound h.writes)

@@ -6,6 +6,5 @@ abbrev pub invariant-loop : goal.invariant-loop
 invariant-loop g l =
     record {
       name : l.start.name ≡ l.initial.start.name;
-      items : length
-          l.initial.start.items ≤ length l.start.items;
+      items : length l.initial.start.items ≤ length l.start.items;
     }

@@ -50,15 +50,14 @@ use Rattle.fq_pair.specs.Forms.{Form}
 use Rattle.fq_pair.specs.Walks.{SourceState}
 use Rattle.fq_run_core.specs.PairsRead.{Reads, fresh_source, feed_in}
 use Rattle.fq_run_core.proofs.OutletLemmas.{all_took_same, all_took_keep, flush_keeps, keep_then, still_healthy}
-use Rattle.fq_run_core.proofs.PassLemmas.{runs_passed}
 use Rattle.fq_run_core.proofs.TotalLemmas.{no_text, some_pair, counts_added, is_cut}
 use Rattle.std.specs.Option.{option_map, option_and_then, IfSome}
 use Rattle.fq_run.specs.declared.dealer.dealt.Dealt.{Dealt}
 use Rattle.fq_run.specs.declared.conclusion.Conclusion.{Conclusion}
-use Rattle.fq_run_core.specs.Endings.{Run, AreTold, ends_whole, IsTrimmed, AreItsNames, EveryEnding}
+use Rattle.fq_run_core.specs.Endings.{Run, ends_whole, AreItsNames}
 use Rattle.fq_run_core.specs.Outcomes.{rank}
 use Rattle.fq_run.proofs.StartLemmas.{of_one}
-use Rattle.fq_run_core.proofs.RunLemmas.{Verdict, verdict, run_rank, run_every, run_names, run_whole}
+use Rattle.fq_run_core.proofs.RunLemmas.{Keeps, run_keeps}
 use Rattle.fq_work.specs.declared.reply.Cause.TheVariants as cause
 use Rattle.fq_run_core.specs.Fates as fate
 use Rattle.fq_run_core.specs.declared.outcome.Outcome.TheVariants as outcome
@@ -86,9 +85,8 @@ module _ (lists : List (List Step)) where
       ≡ plus (of_blocks (b ∷ every (w - 1) w bs)) (lanes_sum n w bs)
   unfolding lanes_sum
   moved zero w b bs = refl
-  moved (suc n) w b bs =
-      ap (plus (of_blocks (every n w bs))) (moved n w b bs)
-      ∙ swapped (of_blocks (every n w bs)) (of_blocks (b ∷ every (w - 1) w bs)) (lanes_sum n w bs)
+  moved (suc n) w b bs = ap (plus (of_blocks (every n w bs))) (moved n w b bs) ∙ swapped
+      (of_blocks (every n w bs)) (of_blocks (b ∷ every (w - 1) w bs)) (lanes_sum n w bs)
 
   -- shares of no blocks
   none_sum : (n w : ℕ) → lanes_sum n w [] ≡ no_tally
@@ -134,8 +132,7 @@ one_added a b t is = ap (tally_plus (Some a)) is
 -- the tallies of the shares before k, and then of those from k on
 all_added : (steps : List Step) (n : ℕ) (bs : List Numbered) (k : ℕ) (ws : List Worked) →
     HaveTallied true steps n bs k ws →
-    tallies_from (Some (lanes_sum (alone steps) k n bs)) ws
-    ≡ Some (lanes_sum (alone steps) n n bs)
+    tallies_from (Some (lanes_sum (alone steps) k n bs)) ws ≡ Some (lanes_sum (alone steps) n n bs)
 unfolding lanes_sum
 all_added steps n bs k [] have = grind (arith, common_steps)
 all_added steps n bs k (w ∷ ws) have =
@@ -145,13 +142,14 @@ all_added steps n bs k (w ∷ ws) have =
     ∙ all_added steps n bs (suc k) ws have.1
 
 -- the tallies of all workers, added to that of no pairs, are the tally of all blocks
-added_up : (tallied : Bool) (steps : List Step) (n : ℕ) (bs : List Numbered) (ws : List Worked) →
-    HaveTallied tallied steps (suc n) bs 0 ws →
+added_up : (tallied : Bool) (steps : List Step) (w : ℕ) (bs : List Numbered) (ws : List Worked) →
+    0 < w → HaveTallied tallied steps w bs 0 ws →
     tallies_from (tally_if tallied [] []) ws ≡ tally_if tallied steps (pairs_of bs)
 unfolding lanes_sum
-added_up true steps n bs ws have = all_added steps (suc n) bs 0 ws have
+added_up true steps zero bs ws some have = absurd (omega arith)
+added_up true steps (suc n) bs ws some have = all_added steps (suc n) bs 0 ws have
     ∙ ap (λ (t : Tally). let s : Option Tally = Some t in s) (lanes_add_up (alone steps) n bs)
-added_up false steps n bs ws have = none_added ws
+added_up false steps w bs ws some have = none_added ws
 
 -- Workers that did not stop.
 
@@ -182,10 +180,9 @@ took_sent : (t : History Numbered) (c : Result (History Numbered) NotEnded) (w :
 took_sent t c w closed same = grind (arith, common_steps)
 
 module _ (tallied : Bool) (steps : List Step) (holds : Bool) (n : ℕ) (bs : List Numbered) where
-  one_tallied : (k : ℕ) (a m : Name) (t : History Numbered)
-      (c : Result (History Numbered) NotEnded) (w : Worked) (f : History Reply) →
-      Closed t c → Answered tallied steps holds a m w → Confirmed c w f →
-      t.items ≡ every k n bs → list_any (is_stop Gate) f.items ≡ false →
+  one_tallied : (k : ℕ) (a m : Name) (t : History Numbered) (c : Result (History Numbered) NotEnded)
+      (w : Worked) (f : History Reply) → Closed t c → Answered tallied steps holds a m w →
+      Confirmed c w f → t.items ≡ every k n bs → list_any (is_stop Gate) f.items ≡ false →
       list_any (is_stop (Memory witness)) f.items ≡ false →
       w.tally ≡ tally_if tallied steps (pairs_of (every k n bs))
   one_tallied k a m t c w f closed h confirmed dealt gate memory =
@@ -215,8 +212,7 @@ module _ (tallied : Bool) (steps : List Step) (holds : Bool) (n : ℕ) (bs : Lis
       ∙ ap (λ (i : ℕ). every i n bs) same in (
         one_tallied k x m t c w f closed.0 a.0 confirmed.0 first g.0 o.0,
         have_tallied (suc k) ns ms ts cs ws fs closed.1 a.1 confirmed.1 (omega arith)
-            (λ j d lt.
-            (let next : k + suc j ≡ suc k + j = omega arith in
+            (λ j d lt. (let next : k + suc j ≡ suc k + j = omega arith in
             dealt (suc j) d (omega arith) ∙ ap (λ (i : ℕ). every i n bs) next)) g.1 o.1,
       )
   have_tallied k _ _ (t ∷ ts) [] _ _ closed a confirmed len dealt gate memory = absurd closed
@@ -228,12 +224,6 @@ module _ (tallied : Bool) (steps : List Step) (holds : Bool) (n : ℕ) (bs : Lis
 counted_tally : (total : Total) (ds : List Done) → (counted_from total ds).tally ≡ total.tally
 counted_tally total [] = refl
 counted_tally total (d ∷ ds) = counted_tally (total_plus total d) ds
-
-in_all : (tallied : Bool) (steps : List Step) (w : ℕ) (bs : List Numbered) (ws : List Worked) →
-    0 < w → HaveTallied tallied steps w bs 0 ws →
-    tallies_from (tally_if tallied [] []) ws ≡ tally_if tallied steps (pairs_of bs)
-in_all tallied steps zero bs ws some have = absurd (omega arith)
-in_all tallied steps (suc n) bs ws some have = added_up tallied steps n bs ws have
 
 -- if no worker stopped, the tallies of all workers, added to a total, are that of all blocks
 pub tallies_add_up : (tallied : Bool) (steps : List Step) (holds : Bool) (w : ℕ)
@@ -249,7 +239,7 @@ tallies_add_up tallied steps holds w bs ns ms ts cs ws fs total ds halt some dea
     let lanes : length ts ≡ w = dealt.lanes in
     ap (λ (t : Option Tally). tallies_from t ws)
     (ap (λ (t : Total). t.tally) is ∙ counted_tally (no_total tallied) ds)
-    ∙ in_all tallied steps w bs ws some (have_tallied tallied steps holds w bs 0 ns ms ts cs ws fs
+    ∙ added_up tallied steps w bs ws some (have_tallied tallied steps holds w bs 0 ns ms ts cs ws fs
     closed a confirmed (omega arith)
     (λ j d lt.
     (let same : j ≡ 0 + j = omega arith in
@@ -471,9 +461,13 @@ module _ (form : Form) (c : Choices) (f r : FeedState) (old new : SourceState)
   pub runs_threaded : Collects c.tallied w before mid k → (k.phase ≡ Writing → ⊥) →
       Runs {E = Unit {0}} form c f r (feed_in new.forward) (feed_in new.reverse) before mid total
       k.halt why (failed_in k.phase) (Ok new.names)
-  runs_threaded collects over =
-      runs_passed form c f r _ _ old new before mid total k.halt why (failed_in k.phase) is refl
-      refl (passes_by k.phase collects.written collects.total collects.writes over) _ refl
+  runs_threaded collects over = record {
+    new = new;
+    passes = rw (← is) (passes_by k.phase collects.written collects.total collects.writes over);
+    forward = refl;
+    reverse = refl;
+    held = refl;
+  }
 
 -- What a run guarantees if all its threads were started.
 
@@ -538,35 +532,13 @@ module _ {S : Type 0} (state : S → SourceState) (c : Choices) (s : SourceState
           fresh.fresh h.deals.sent h.deals.out h.deals.ends (matched (ends.workers none)) read_on
           lanes pos total refl (tally (ends.workers none)) collects over
 
-      rank_is : 3 ≤ rank ending.outcome
-      rank_is = run_rank s.form c _ _ _ _ before mid total k.halt dealt.why _ runs after failed
-          ending.outcome flushed (ends.outcome_is none) fresh.forward fresh.reverse ending.total
-          ends.total
-
-      every_is : EveryEnding c the_run
-      every_is = rw ends.source (run_every s.form c _ _ _ _ before mid total k.halt dealt.why _
+      kept : Keeps c the_run k.halt (state dealt.source).names
+      kept =
+          let r = runs in
+          let held : (state dealt.source).names ≡ r.new.names = r.held in
+          rw (ends.source, held) (run_keeps s.form c _ _ _ _ before mid total k.halt dealt.why _
           runs after failed ending.outcome flushed (ends.outcome_is none) fresh.forward
           fresh.reverse ending.total ends.total)
-
-      whole_is : IsTrue (ends_whole ending.outcome) → AreTold the_run → IsTrimmed c the_run
-      whole_is ends_so told = rw ends.source (run_whole s.form c _ _ _ _ before mid total k.halt
-          dealt.why _ runs after failed ending.outcome flushed (ends.outcome_is none)
-          fresh.forward fresh.reverse ending.total ends.total
-          ends_so (record { forward = told.forward; reverse = told.reverse }))
-
-      names_are : AreItsNames s.form c.encoding (feed_in s.forward) (feed_in s.reverse)
-          ending.outcome (names_left state ending) ending.refused
-      names_are =
-          let r = runs in
-          run_names s.form c _ _ _ _ before mid total k.halt dealt.why _ runs after failed
-          ending.outcome flushed (ends.outcome_is none) fresh.forward fresh.reverse ending.total
-          ends.total _ _
-          (λ at. inl (ap (option_and_then (λ x. (state x).names)) ends.source ∙ r.held))
-
-      gate_is : ending.outcome ≡ outcome.Gate → IsTrue holds
-      gate_is at = shut (ends.workers none) (subst (Verdict k.halt dealt.why failed)
-          (sym (ends.outcome_is none) ∙ at)
-          (verdict k.halt dealt.why failed (λ going sound. absurd (read_on going))))
 
     still_there : (of : S → FeedState) → option_map of ending.source ≡ None → ⊥
     still_there of gone = let e = sym (ap (option_map of) ends.source) ∙ gone in cc
@@ -578,21 +550,24 @@ module _ {S : Type 0} (state : S → SourceState) (c : Choices) (s : SourceState
 
     by_end : (u : Option NotEnded) → ending.unended ≡ u →
         IsThreaded c holds the_run u ending.refused (names_left state ending)
-    by_end None none = record {
-      files = files_kept;
-      lane = λ at. absurd (let r = rank_is none in let e = ap rank at in omega arith);
-      no_other = λ there. absurd cc;
-      memory = ends.memory;
-      spawn = λ at. absurd (let r = rank_is none in let e = ap rank at in omega arith);
-      gate = gate_is none;
-      forward = λ gone. absurd (still_there forward_of gone);
-      reverse = λ gone. absurd (still_there reverse_of gone);
-      together = of_one forward_of reverse_of ending.source;
-      untouched = λ at. absurd (let r = rank_is none in let e = ap rank at in omega arith);
-      names = names_are none;
-      whole = whole_is none;
-      every = λ sound. every_is none;
-    }
+    by_end None none =
+        let is = kept none in let high = is.started in
+        record {
+          files = files_kept;
+          lane = λ at. absurd (let e = ap rank at in omega arith);
+          no_other = λ there. absurd cc;
+          memory = ends.memory;
+          spawn = λ at. absurd (let e = ap rank at in omega arith);
+          gate = λ at. shut (ends.workers none) (is.gate at);
+          forward = λ gone. absurd (still_there forward_of gone);
+          reverse = λ gone. absurd (still_there reverse_of gone);
+          together = of_one forward_of reverse_of ending.source;
+          untouched = λ at. absurd (let e = ap rank at in omega arith);
+          names = is.names _ _
+              (λ at. inl (ap (option_and_then (λ x. (state x).names)) ends.source));
+          whole = is.whole;
+          every = λ sound. is.every;
+        }
     by_end (Some unended) there =
         let P : Option NotEnded → Type 0 = λ u. IfSome u (λ x. ending.outcome ≡ outcome.Lane) in
         let lane : ending.outcome ≡ outcome.Lane = subst P there ends.lane in

@@ -6,5 +6,5 @@ use Rattle.fq_run.proofs.threads.run.Goals as goal
 -- if memory is refused before the threads start, nothing is read or written
 pub returns-in-Err : goal.returns-in-Err
 returns-in-Err g c =
-    rw c.refused.ensures (refused _ _ _ _ _ _ _ _ _ _ _ refl refl refl
+    rw c.unstarted.ensures (refused _ _ _ _ _ _ _ _ _ _ _ refl refl refl
     c.flush_after.ensures c.requires.fresh.forward c.requires.fresh.reverse)

@@ -7,8 +7,8 @@ use Rattle.fq_run.proofs.threads.start.Goals as goal
 -- the dealer's lanes are new, and nothing was read from its source
 pub start_dealer-requires-clause-deals : goal.start_dealer-requires-clause-deals
 start_dealer-requires-clause-deals g c κs within =
-    can_deal _ _ c.args.settings.now _ c.args.dealer c.args.ready c.requires.ready
-    (omega (arith, c.args.dealer.to.ok.0)) c.requires.fresh c.requires.few
+    can_deal _ _ c.args.settings.now _ _ c.args.lanes c.requires.lanes refl refl
+    (omega (arith, c.args.lanes.seats.to.ok.0)) c.requires.fresh c.requires.few
 
 -- if the dealer's thread is refused, the feeds are lost, and nothing is written
 pub returns-in-Err : goal.returns-in-Err
@@ -20,7 +20,7 @@ pub returns-in-Err-start_workers : goal.returns-in-Err-start_workers
 returns-in-Err-start_workers g c =
     let s = g.S.PairReader in
     let left = c.into_unread-source.result in
-    let back = unread s.state (s.state c.args.dealer.source) left
+    let back = unread s.state (s.state c.args.source) left
     (idle s.state _ _ _ _ _ _ _ _ _ c.join.result.source left
     (ap s.state c.in-Ok.ensures.source) refl c.join.ensures c.into_unread-source.ensures) in
     rw c.unstarted-in-Err-start_workers.ensures (unstarted _ _ _ _ _ _ _ back.0 back.1

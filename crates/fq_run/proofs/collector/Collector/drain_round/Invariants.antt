@@ -7,6 +7,5 @@ use Rattle.fq_run.proofs.collector.Collector.drain_round.Given as goal
 abbrev pub invariant-loop-at : goal.invariant-loop-at
 invariant-loop-at l = record {
   drains : Drains l.initial.self l.self;
-  lanes : vec_len l.self.replies
-      ≡ vec_len l.initial.self.replies;
+  lanes : vec_len l.self.replies ≡ vec_len l.initial.self.replies;
 }

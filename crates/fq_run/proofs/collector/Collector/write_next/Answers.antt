@@ -15,8 +15,7 @@ returns-in-Err g c =
     ∙ c.index_mut-ends.ensures.value) c.take_wait.ensures refl in
     record {
       collects = λ tallied before h. collects_broken tallied _ before _ _ k _ c.in-Some-Done.done
-          c.in-Err.out h c.requires.writing refl t c.in-Err.ensures refl
-          refl;
+          c.in-Err.out h c.requires.writing refl t c.in-Err.ensures refl refl;
       names = takes_names _ _ _ _ t;
       hears = hears_take _ _ _ _ _ k.turn lt t refl;
     }

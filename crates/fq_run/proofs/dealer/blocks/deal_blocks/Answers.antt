@@ -1,7 +1,7 @@
 -- Each block is filled and dealt out, until reading stops.
 use Rattle.std.proofs.Common.{◌≡◌, ◌%◌, suc, length, ap, ◌∙◌, arith}
 use Rattle.fq_block.specs.Blocks.{Numbered}
-use Rattle.fq_run.proofs.dealer.DealerLemmas.{fills_as, deals_none, deals_more, deals_last}
+use Rattle.fq_run.proofs.dealer.DealerLemmas.{deals_none, deals_more, deals_last}
 use Rattle.fq_run.proofs.dealer.blocks.deal_blocks.Goals as goal
 
 -- before the first block nothing is read or dealt out
@@ -14,8 +14,7 @@ dealing-init g c = record {
 -- when reading stops, the last block is sent unless it is empty, and all blocks are dealt out
 pub returns-in-Some : goal.returns-in-Some
 returns-in-Some g c =
-    let filled = fills_as _ _ c.args.settings.now.block_pairs c.block_pairs.result _ _ _
-    c.block_pairs.ensures.pairs c.in-Some.ensures in
+    let filled = rw c.block_pairs.ensures.pairs at c.in-Some.ensures in
     let some = c.block_pairs.ensures.some in let same = c.block_pairs.ensures.pairs in
     deals_last c.args.settings.now _ _ _ _ _ _ _ _ _ _ _ _ _ c.dealing.invariant.deals filled
     (ap (λ (b : Numbered). b.number) c.ready_block-block.ensures.block)
@@ -26,21 +25,17 @@ returns-in-Some g c =
 -- a full block goes to the lane whose turn it is, and then it is the next lane's turn
 pub dealing-preserved : goal.dealing-preserved
 dealing-preserved g c =
-    let filled = fills_as _ _ c.args.settings.now.block_pairs c.block_pairs.result _ _ _
-    c.block_pairs.ensures.pairs c.fill-why.ensures in
+    let filled = rw c.block_pairs.ensures.pairs at c.fill-why.ensures in
     let some = c.block_pairs.ensures.some in let same = c.block_pairs.ensures.pairs in
     let lanes : c.len-lanes.result ≡ length c.args.to.now.items =
     omega (arith, c.len-lanes.ensures, c.args.to.now.ok.0) in
     record {
       lanes = c.dealing.invariant.lanes;
       deals = deals_more c.args.settings.now _ _ _ _ _ _ _ _ _ _ _ _ _ c.dealing.invariant.deals
-          filled
-          (ap (λ (b : Numbered). b.number) c.ready_block-block.ensures.block)
-          (ap (λ (b : Numbered). b.encoding) c.ready_block-block.ensures.block
-          ∙ c.encoding.ensures)
-          (c.ready_block-block.ensures.unsent
-          ∙ c.index_mut-ends.ensures.value) c.put_filled.ensures c.in_default.is (omega arith)
-          c.next_turn-turn.result (c.next_turn-turn.ensures.value
-          ∙ ap (λ n. suc c.dealing.turn % n) lanes)
+          filled (ap (λ (b : Numbered). b.number) c.ready_block-block.ensures.block)
+          (ap (λ (b : Numbered). b.encoding) c.ready_block-block.ensures.block ∙ c.encoding.ensures)
+          (c.ready_block-block.ensures.unsent ∙ c.index_mut-ends.ensures.value) c.put_filled.ensures
+          c.in_default.is (omega arith) c.next_turn-turn.result
+          (c.next_turn-turn.ensures.value ∙ ap (λ n. suc c.dealing.turn % n) lanes)
           (omega (arith, c.next_turn-turn.ensures.below));
     }
