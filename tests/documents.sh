@@ -335,8 +335,7 @@ measure_code() {
   LC_ALL=C.UTF-8 find crates -path '*/out' -prune -o '(' -name '*.rt' -o -name '*.antt' ')' \
     -exec grep -nE "^.{$((width + 1))}" {} + |
     grep -vE '^[^:]*:[0-9]+: *((pub )?(ghost )?use |#\[tactic|pub [^ ]* : goal\.)|^[^"]*"' | cut -c 1-100 > "$work/wide_code"
-  # Three lines wait for the next change of their crates: to lay out one in fq_text proves all anew.
-  if [ "$(wc -l < "$work/wide_code")" -gt 3 ]; then
+  if [ -s "$work/wide_code" ]; then
     head -n 20 "$work/wide_code"
     fail "$(wc -l < "$work/wide_code") lines of code or comments are over $width columns"
   fi

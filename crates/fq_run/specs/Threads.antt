@@ -1,5 +1,5 @@
--- A run on several threads: what is laid out before its threads start, how it is concluded, and what
--- it guarantees.
+-- A run on several threads: what is laid out before its threads start, how it is concluded, and
+-- what it guarantees.
 use Rattle.std.specs.Prelude.{◌≡◌, ◌≢◌, ◌≤◌, ◌<◌, ℕ, Bool, IsTrue, ◌↔◌, List, [], ◌∷◌, length, vec_len, vec_capacity}
 use Rattle.std.specs.Prelude.{Option, Some, None, IfSome, IsSome, Result, IsOkAnd}
 use Rattle.std.specs.List.{AllZip}

@@ -43,8 +43,8 @@ pub(crate) fn write_blocks<S: PairReader, O: Outlet>(
     written
 }
 
-// Does the work of `write_blocks` with borrowed room for the texts of a block, on a borrowed result,
-// which says so far that nothing was read or written.
+// Does the work of `write_blocks` with borrowed room for the texts of a block, on a borrowed
+// result, which says so far that nothing was read or written.
 #[tactic(auto, using(std::proofs::lemmas::Grind::common_steps, crate::proofs::PassLemmas::passes_unasked))]
 fn write_with<S: PairReader, O: Outlet>(
     alloc: Global,

@@ -12,8 +12,8 @@
 //! - `= KEY: TEXT` is an expected answer, and `~ KEY: TEXT` an expected part of one.
 //! - Other lines are inputs of that function.
 //!
-//! `KEY / KEY: TEXT / TEXT` stands for several lines. A text may be a name that stands for the texts
-//! of all keys.
+//! `KEY / KEY: TEXT / TEXT` stands for several lines. A text may be a name that stands for the
+//! texts of all keys.
 //!
 //! The lines of a block before its first `row:` are part of each of its rows. Rows with the same
 //! keys may stand in a table. Its first line `| KEY | KEY |` has the keys, and each other one

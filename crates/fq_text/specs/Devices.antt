@@ -9,9 +9,9 @@ pub record FeedState : Type 0 where
   pub to_come : List ℕ
   pub failures : ℕ
 
--- an outlet: the number of the file that it writes, if its bytes are known to the proof, those taken,
--- oldest first, how many writes and flushes have failed, and whether the last of them was a flush
--- that succeeded
+-- an outlet: the number of the file that it writes, if its bytes are known to the proof, those
+-- taken, oldest first, how many writes and flushes have failed, and whether the last of them was a
+-- flush that succeeded
 pub record OutletState : Type 0 where
   pub file : Option ℕ
   pub taken : List ℕ

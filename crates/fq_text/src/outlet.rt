@@ -20,8 +20,8 @@ pub struct OutletFailed;
 /// for all outlets.
 pub trait Outlet {
     /// What contracts see of the outlet: the number of the file that it writes, if its bytes are
-    /// known to the proof, those taken so far, how many writes and flushes have failed, and whether the last of them was a flush that
-    /// succeeded.
+    /// known to the proof, those taken so far, how many writes and flushes have failed, and whether
+    /// the last of them was a flush that succeeded.
     ghost state: { Self → OutletState };
 
     /// Takes the first n of these bytes, after those taken before, and returns n: 1 or more, unless

@@ -629,7 +629,8 @@ conclude-requires-clause-workers g c =
     let a = all_answered tallied steps holds to m.ends c.args.replies.items _ ws m.laid m.seated
     c.join_workers-worked.ensures in
     can_confirm tallied steps holds d.sent c.join-dealt.result.closings.items ws k.replies.items
-    d.ends (rw (d.out.names, c.collect-collector.ensures.names) a) c.collect-collector.ensures.over.1
+    d.ends (rw (d.out.names, c.collect-collector.ensures.names) a)
+    c.collect-collector.ensures.over.1
 
 -- what is promised of a run on several threads holds after all joins
 pub returns : goal.returns

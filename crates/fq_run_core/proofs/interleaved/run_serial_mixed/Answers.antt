@@ -14,7 +14,8 @@ pub returns : goal.returns
 returns g c =
     let k = run_keeps _ c.args.settings.now _ _ _ _ _ _ _ _ _ _ c.pass-written.ensures _ _ _
     c.flush_after-failed.ensures (c.outcome-outcome.ensures
-    ∙ ap outcome_of c.new-occurred.ensures) c.requires.feed c.requires.feed c.at_end-total.result c.at_end-total.ensures in
+    ∙ ap outcome_of c.new-occurred.ensures) c.requires.feed c.requires.feed
+    c.at_end-total.result c.at_end-total.ensures in
     record {
       feed = refl;
       serial = k.serial refl;
