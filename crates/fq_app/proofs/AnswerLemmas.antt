@@ -22,7 +22,7 @@ use Rattle.fq_app_words.specs.Requests.{Asking, input_name}
 use Rattle.fq_app_words.specs.Words.{AskedFor, asked_pairs, pairs_asked}
 use Rattle.fq_app_words.specs.declared.words.Asked.{Asked}
 use Rattle.fq_app_files.specs.Judging.{wrong_with}
-use Rattle.fq_app_files.specs.Trimming.{filed, IsNoOutput, TrimsFiles}
+use Rattle.fq_app_files.specs.Trimming.{filed, AreFilesTold, AreInputsTold, AreMadeTold, IsNoOutput, TrimsFiles}
 use Rattle.fq_app_files.specs.Leaving.{RefusalLeaves, ReportLeft, HoldFirstPairs, AreLeft, TellsInputs}
 use Rattle.fq_app_files.proofs.EndingLemmas.{done_is_whole, ends_so}
 use Rattle.fq_app_files.proofs.LeavingLemmas.{refusal_untrimmed, report_untrimmed, whole_first}
@@ -64,8 +64,8 @@ refuses_fails a refusal err status (inr lacks) =
 -- refused memory has its line, or that of a report
 untold_line : (a : Asking) (old new : FilesState) (out err : Device) (status : ℕ) (text : List ℕ) →
     status ≡ 5 → (text ≡ memory_line) ⊎ (text ≡ report_memory_line a) → TookText err text
-    → (IsTrue old.tells → AreLeft (filed old a) old.bytes new.bytes)
-    → (IsTrue old.tells → (name : List ℕ) → (filed old a).report ≡ Some name →
+    → (AreFilesTold (filed old a) old.tells → AreLeft (filed old a) old.bytes new.bytes)
+    → (AreFilesTold (filed old a) old.tells → (name : List ℕ) → (filed old a).report ≡ Some name →
     IsReportUncut a (filed old a) old.bytes new.bytes name) →
     TookLine a old new out err status
 untold_line a old new out err status text five is took left report_left = record {
@@ -81,8 +81,9 @@ untold_line a old new out err status text five is took left report_left = record
 
 -- refused memory has its line
 lacks_line : (a : Asking) (old new : FilesState) (out err : Device) (status : ℕ) →
-    LacksMemory err status → (IsTrue old.tells → AreLeft (filed old a) old.bytes new.bytes)
-    → (IsTrue old.tells → (name : List ℕ) → (filed old a).report ≡ Some name →
+    LacksMemory err status
+    → (AreFilesTold (filed old a) old.tells → AreLeft (filed old a) old.bytes new.bytes)
+    → (AreFilesTold (filed old a) old.tells → (name : List ℕ) → (filed old a).report ≡ Some name →
     IsReportUncut a (filed old a) old.bytes new.bytes name) →
     TookLine a old new out err status
 lacks_line a old new out err status lacks left report_left =
@@ -108,11 +109,12 @@ uncut_left a f old new name uncut = ⊎_elim (λ kept. inl kept)
 
 -- a request that ends because memory was refused
 pub lacks_answer : (a : Asking) (old new : FilesState) (out err : Device) (status : ℕ) →
-    LacksMemory err status → (IsTrue old.tells → AreLeft (filed old a) old.bytes new.bytes)
-    → (IsTrue old.tells → (name : List ℕ) → (filed old a).report ≡ Some name →
+    LacksMemory err status
+    → (AreFilesTold (filed old a) old.tells → AreLeft (filed old a) old.bytes new.bytes)
+    → (AreFilesTold (filed old a) old.tells → (name : List ℕ) → (filed old a).report ≡ Some name →
     IsReportUncut a (filed old a) old.bytes new.bytes name)
-    → (IsTrue old.tells → (side : Side) → old.bytes (input_name (filed old a).inputs side) ≡ None →
-    IsUnchanged old.bytes new.bytes) →
+    → ((side : Side) → IsTrue (old.tells (input_name (filed old a).inputs side)) →
+    old.bytes (input_name (filed old a).inputs side) ≡ None → IsUnchanged old.bytes new.bytes) →
     PairsAnswered a old new out err status
 lacks_answer a old new out err status lacks left report_left unopened =
     let five = lacks.status_is in
@@ -141,12 +143,13 @@ pub refused_answer : (a : Asking) (old new : FilesState) (out err : Device) (sta
     (refusal : Refusal) → Refuses a refusal err status
     → ((other : Refusal) → wrong_with a ≡ Some other → refusal ≡ other) →
     (wrong_with a ≡ None → status_of refusal ≢ 2)
-    → (IsTrue old.tells → RefusalLeaves (filed old a) refusal old.bytes new.bytes)
-    → (IsTrue old.tells → (name : List ℕ) → (filed old a).report ≡ Some name →
+    → (AreMadeTold (filed old a) old.tells →
+    RefusalLeaves (filed old a) refusal old.bytes new.bytes)
+    → (AreMadeTold (filed old a) old.tells → (name : List ℕ) → (filed old a).report ≡ Some name →
     IsNoOutput (filed old a) name →
     ReportLeft refusal (old.bytes name) (new.bytes name))
-    → (IsTrue old.tells → (side : Side) → old.bytes (input_name (filed old a).inputs side) ≡ None →
-    IsUnchanged old.bytes new.bytes) →
+    → ((side : Side) → IsTrue (old.tells (input_name (filed old a).inputs side)) →
+    old.bytes (input_name (filed old a).inputs side) ≡ None → IsUnchanged old.bytes new.bytes) →
     PairsAnswered a old new out err status
 refused_answer a old new out err status refusal (inl refuses) first late left report_left
     unopened =
@@ -173,23 +176,23 @@ refused_answer a old new out err status refusal (inl refuses) first late left re
       };
       known = λ one. own.1 (sym is ∙ one);
       left = λ other tells.
-          inl (refusal_untrimmed (filed old a) refusal old.bytes new.bytes (left tells));
+          inl (refusal_untrimmed (filed old a) refusal old.bytes new.bytes (left tells.made));
       reported =
           λ ends. absurd (⊎_elim (λ zero. own.0 (sym is ∙ zero)) (λ three. own.2 (sym is ∙ three))
           ends);
       report_left =
           λ tells name named. inl (report_untrimmed (filed old a) refusal old.bytes new.bytes
-          (left tells)
-          (report_left tells) name named);
+          (left tells.made)
+          (report_left tells.made) name named);
       unopened = unopened;
     }
 refused_answer a old new out err status refusal (inr lacks) first late left report_left
     unopened =
     lacks_answer a old new out err status lacks
-    (λ tells. inl (refusal_untrimmed (filed old a) refusal old.bytes new.bytes (left tells)))
+    (λ tells. inl (refusal_untrimmed (filed old a) refusal old.bytes new.bytes (left tells.made)))
     (λ tells name named. inl (report_untrimmed (filed old a) refusal old.bytes new.bytes
-    (left tells)
-    (report_left tells) name named)) unopened
+    (left tells.made)
+    (report_left tells.made) name named)) unopened
 
 -- What is known of a run that was made: what its outputs hold, whether its report was due, and what
 -- the report holds.
@@ -198,10 +201,10 @@ pub record IsRun (a : Asking) (old new : FilesState) (outcome : Outcome)
   -- no gate ended it
   pub no_gate : outcome ≢ Gate
   -- if it ended whole, all pairs were trimmed
-  pub trims : IsTrue old.tells → IsTrue (ends_whole outcome) →
+  pub trims : AreFilesTold (filed old a) old.tells → IsTrue (ends_whole outcome) →
       TrimsFiles (filed old a) old.bytes new.bytes outcome counts
   -- unless a lane was not confirmed, the outputs hold the texts of first pairs
-  pub ended : IsTrue old.tells → outcome ≢ Lane →
+  pub ended : AreFilesTold (filed old a) old.tells → outcome ≢ Lane →
       HoldFirstPairs (filed old a) old.bytes new.bytes outcome
   -- a report is due only if the status is 0 or 3
   pub due : reported ≢ report.NotDue → (outcome_status outcome ≡ 0) ⊎ (outcome_status outcome ≡ 3)
@@ -209,7 +212,8 @@ pub record IsRun (a : Asking) (old new : FilesState) (outcome : Outcome)
   pub not_due : reported ≡ report.NotDue → IsSome a.report →
       (outcome_status outcome ≢ 0) × (outcome_status outcome ≢ 3)
   -- what the file of the report holds depends on what became of the report
-  pub held : IsTrue old.tells → (name : List ℕ) → (filed old a).report ≡ Some name →
+  pub held : AreFilesTold (filed old a) old.tells → (name : List ℕ) →
+      (filed old a).report ≡ Some name →
       ReportHeld reported a (filed old a) old.bytes new.bytes name
 
 is_wanted : (leads : List ℕ → List ℕ) (o : Option (List ℕ)) (file : List ℕ) →
@@ -230,8 +234,9 @@ not_lane outcome is lane =
 
 module _ (a : Asking) (old new : FilesState) (outcome : Outcome) (counts : Counts)
     (reported : Reported) (run : IsRun a old new outcome counts reported) where
-  held_as : (is : Reported) → reported ≡ is → IsTrue old.tells → (name : List ℕ) →
-      (filed old a).report ≡ Some name → ReportHeld is a (filed old a) old.bytes new.bytes name
+  held_as : (is : Reported) → reported ≡ is → AreFilesTold (filed old a) old.tells →
+      (name : List ℕ) → (filed old a).report ≡ Some name →
+      ReportHeld is a (filed old a) old.bytes new.bytes name
   held_as is same tells name named =
       let P : Reported → Type 0 = λ r. ReportHeld r a (filed old a) old.bytes new.bytes name in
       subst P same (run.held tells name named)
@@ -243,7 +248,7 @@ module _ (a : Asking) (old new : FilesState) (outcome : Outcome) (counts : Count
   -- if the run ended whole, a report that was written or not due holds the defined text
   pub is_held : (reported ≡ report.NotDue) ⊎ (reported ≡ report.Written) →
       (outcome_status outcome ≡ 0) ⊎ (outcome_status outcome ≡ 3)
-      → IsTrue old.tells → (name : List ℕ) → (filed old a).report ≡ Some name →
+      → AreFilesTold (filed old a) old.tells → (name : List ℕ) → (filed old a).report ≡ Some name →
       HoldsReport a (filed old a) old.bytes new.bytes name
   is_held (inl none) ends tells name named =
       let other = run.not_due none (is_wanted old.leads a.report name named) in
@@ -251,23 +256,24 @@ module _ (a : Asking) (old new : FilesState) (outcome : Outcome) (counts : Count
   is_held (inr written) ends tells name named = held_as report.Written written tells name named
 
   -- if the run did not end whole, the report is empty
-  is_empty : (reported ≡ report.NotDue) ⊎ (reported ≡ report.Written) → IsTrue old.tells →
-      outcome_status outcome ≢ 0 → outcome_status outcome ≢ 3
+  is_empty : (reported ≡ report.NotDue) ⊎ (reported ≡ report.Written) →
+      AreFilesTold (filed old a) old.tells → outcome_status outcome ≢ 0 → outcome_status outcome ≢ 3
       → (name : List ℕ) → (filed old a).report ≡ Some name → new.bytes name ≡ Some []
   is_empty (inl none) tells some other name named = held_as report.NotDue none tells name named
   is_empty (inr written) tells some other name named =
       absurd (⊎_elim some other (due_as report.Written written (λ e. absurd (cc e))))
 
   -- a report that was written or not due is whole or empty
-  is_uncut : (reported ≡ report.NotDue) ⊎ (reported ≡ report.Written) → IsTrue old.tells →
-      (name : List ℕ) → (filed old a).report ≡ Some name →
+  is_uncut : (reported ≡ report.NotDue) ⊎ (reported ≡ report.Written) →
+      AreFilesTold (filed old a) old.tells → (name : List ℕ) → (filed old a).report ≡ Some name →
       IsReportUncut a (filed old a) old.bytes new.bytes name
   is_uncut (inl none) tells name named = inl (inr (held_as report.NotDue none tells name named))
   is_uncut (inr written) tells name named = inr (held_as report.Written written tells name named)
 
   -- the line of a run that was made
   pub told_line : (seen : EndingSeen)
-      (said : IsTrue old.tells → IsSaid old.looks (filed old a) old.bytes (settled outcome) seen)
+      (said : AreFilesTold (filed old a) old.tells →
+      IsSaid old.looks (filed old a) old.bytes (settled outcome) seen)
       (its_error : IsItsError (filed old a) old.may_say outcome seen)
       (error : Option SystemError)
       (report_error : IsReportError (filed old a) old.may_say reported error)
@@ -359,7 +365,8 @@ four_not_five n four five = absurd (omega (arith, four, five))
 -- what was refused
 pub refused_device : (a : Asking) (old : FilesState)
     (err : Device) (status : ℕ) (refusal : Refusal) → Refuses a refusal err status
-    → (IsTrue old.tells → TellsInputs (filed old a).inputs refusal old) →
+    → (AreInputsTold (filed old a).inputs old.tells →
+    TellsInputs (filed old a).inputs refusal old) →
     IsRefusable a (MayRefuseName a.inputs (filed old a).inputs old) refusal → status ≡ 4 →
     NamesRefused a old err
 refused_device a old err status refusal (inl refuses_so) inputs refused four =
@@ -385,7 +392,7 @@ pub failed_device : (a : Asking) (old new : FilesState)
     IsItsError (filed old a) old.may_say outcome seen →
     IsReportError (filed old a) old.may_say reported error →
     (outcome ≢ Lane → HasFailed (filed old a) old new outcome) →
-    (IsTrue old.tells → settled outcome ≡ outcome) →
+    (AreInputsTold (filed old a).inputs old.tells → settled outcome ≡ outcome) →
     (reported ≡ report.Failed → ReportFailed (filed old a) new)
     → Tells a seen outcome reported error out err status → status ≡ 4 →
     NamesDevice a old new out err
@@ -439,9 +446,9 @@ fits_left : (a : Asking) (old new : FilesState) (out : Device) (status : ℕ)
     (text : List ℕ) → (IsRefusal a old new status text ⊎ IsEnding a old new status text)
     ⊎ (IsUnprinted a old new out status text
     ⊎ (IsUntold a old new status text ⊎ IsUnreported a old new status text)) →
-    status ≢ 6 → IsTrue old.tells → AreLeft (filed old a) old.bytes new.bytes
+    status ≢ 6 → AreFilesTold (filed old a) old.tells → AreLeft (filed old a) old.bytes new.bytes
 fits_left a old new out status text (inl (inl refusal)) other tells =
-    inl (refusal_untrimmed (filed old a) refusal.why old.bytes new.bytes (refusal.left tells))
+    inl (refusal_untrimmed (filed old a) refusal.why old.bytes new.bytes (refusal.left tells.made))
 fits_left a old new out status text (inl (inr ending)) other tells =
     inr (
       ending.outcome,
@@ -461,10 +468,10 @@ zero_or n = grind arith
 
 -- what a call leaves in the files, at every status except that of an unconfirmed lane
 pub left_so : (a : Asking) (old new : FilesState) (out err : Device) (status : ℕ)
-    → ((status ≡ 0) ⊎ (status ≡ 3) → IsTrue old.tells →
+    → ((status ≡ 0) ⊎ (status ≡ 3) → AreFilesTold (filed old a) old.tells →
     EndsWhole a old new out err status) →
     (status ≢ 0 → TookLine a old new out err status)
-    → status ≢ 6 → IsTrue old.tells → AreLeft (filed old a) old.bytes new.bytes
+    → status ≢ 6 → AreFilesTold (filed old a) old.tells → AreLeft (filed old a) old.bytes new.bytes
 left_so a old new out err status whole line other tells = ⊎_elim
     (λ zero. let ends = whole (inl zero) tells in
     inr (

@@ -1,8 +1,8 @@
 -- How a request is answered, in all that is said of it.
-use Rattle.std.proofs.Common.{◌≡◌, ◌≢◌, ℕ, IsTrue, inl, refl, arith}
+use Rattle.std.proofs.Common.{◌≡◌, ◌≢◌, ℕ, inl, refl, arith}
 use Rattle.fq_files.specs.States.{FilesState}
 use Rattle.fq_app_words.specs.Requests.{Asking}
-use Rattle.fq_app_files.specs.Trimming.{filed, KeepsUnnamed}
+use Rattle.fq_app_files.specs.Trimming.{filed, AreMadeTold, KeepsUnnamed}
 use Rattle.fq_app_files.specs.Opening.{SparesInputs}
 use Rattle.fq_app.specs.Answers.{Device, LacksMemory, NamesDevice, PairsAnswered}
 use Rattle.fq_app.specs.Calls.{RequestAnswered}
@@ -12,7 +12,7 @@ use Rattle.fq_app.proofs.FileLemmas.{whole_files, files_left}
 -- the files are in step, as the answer says what they hold
 pub request_answered : (a : Asking) (old new : FilesState) (out err : Device) (status : ℕ) →
     PairsAnswered a old new out err status → (status ≡ 4 → NamesDevice a old new out err) →
-    (IsTrue old.tells → KeepsUnnamed (filed old a) old.bytes new.bytes) →
+    (AreMadeTold (filed old a) old.tells → KeepsUnnamed (filed old a) old.bytes new.bytes) →
     SparesInputs (filed old a) ((status ≢ 0) × (status ≢ 3)) old new →
     RequestAnswered a old new out err status
 request_answered a old new out err status pairs device rest spared = record {
@@ -31,9 +31,9 @@ lacks_request a files out err status lacks =
     let five = lacks.status_is in
     request_answered a files files out err status
     (lacks_answer a files files out err status lacks (λ tells. inl (λ out name named. inl refl))
-    (λ tells name named. inl (inl refl)) (λ tells side none name. refl))
+    (λ tells name named. inl (inl refl)) (λ side told none name. refl))
     (λ four. absurd (omega (arith, four, five))) (λ tells name other unnamed. refl)
-    (λ tells name made leads. (
+    (λ name made told leads. (
       ((λ zero. omega (arith, zero, five)), (λ three. omega (arith, three, five))),
       (λ name. refl),
     ))

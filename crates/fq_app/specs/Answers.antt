@@ -22,7 +22,7 @@ use Rattle.fq_app_files.specs.Judging.{wrong_with}
 use Rattle.fq_app_files.specs.Refusals.{status_of, IsRefusable}
 use Rattle.fq_app_files.specs.Faults.{memory_words, settled, outcome_status, outcome_line}
 use Rattle.fq_app_reasons.specs.Lines.{line_of, ending_line, report_line, report_memory_line}
-use Rattle.fq_app_files.specs.Trimming.{filed, IsNoOutput, TrimsFiles}
+use Rattle.fq_app_files.specs.Trimming.{filed, AreFilesTold, AreInputsTold, AreMadeTold, IsNoOutput, TrimsFiles}
 use Rattle.fq_app_files.specs.Leaving.{RefusalLeaves, ReportLeft, HoldFirstPairs, AreLeft, TellsInputs}
 use Rattle.fq_app_files.specs.Completing.{HasFailed, ReportFailed}
 use Rattle.fq_app_files.specs.Reporting.{HoldsReport, BeginsReport}
@@ -106,9 +106,11 @@ pub record IsRefusal (a : Asking)
   pub why : Refusal
   pub status_is : status_of why ≡ status
   pub text_is : line_of a why ≡ text
-  pub left : IsTrue old.tells → RefusalLeaves (filed old a) why old.bytes new.bytes
-  pub report_left : IsTrue old.tells → (file : List ℕ) → (filed old a).report ≡ Some file →
-      IsNoOutput (filed old a) file → ReportLeft why (old.bytes file) (new.bytes file)
+  pub left : AreMadeTold (filed old a) old.tells →
+      RefusalLeaves (filed old a) why old.bytes new.bytes
+  pub report_left : AreMadeTold (filed old a) old.tells → (file : List ℕ) →
+      (filed old a).report ≡ Some file → IsNoOutput (filed old a) file →
+      ReportLeft why (old.bytes file) (new.bytes file)
 
 -- an outcome of the run, which no gate ended, has this status and this line, whose reason is what
 -- the device can say that the outcome names
@@ -119,12 +121,12 @@ pub record IsEnding (a : Asking)
   pub status_is : outcome_status outcome ≡ status
   pub text_is : ending_line a seen outcome ≡ text
   pub no_gate : outcome ≢ Gate
-  pub said : IsTrue old.tells →
+  pub said : AreFilesTold (filed old a) old.tells →
       IsSaid old.looks (filed old a) old.bytes (settled outcome) seen
   pub its_error : IsItsError (filed old a) old.may_say outcome seen
-  pub left : IsTrue old.tells → outcome ≢ Lane →
+  pub left : AreFilesTold (filed old a) old.tells → outcome ≢ Lane →
       HoldFirstPairs (filed old a) old.bytes new.bytes outcome
-  pub unreported : IsTrue old.tells → outcome_status outcome ≢ 0 →
+  pub unreported : AreFilesTold (filed old a) old.tells → outcome_status outcome ≢ 0 →
       outcome_status outcome ≢ 3 → (file : List ℕ) → (filed old a).report ≡ Some file →
       new.bytes file ≡ Some []
 
@@ -134,11 +136,11 @@ pub record IsUnprinted (a : Asking)
   pub status_is : status ≡ 4
   pub failed : out.failures ≢ 0
   pub text_is : text ≡ print_line
-  pub left : IsTrue old.tells →
+  pub left : AreFilesTold (filed old a) old.tells →
       (outcome : Outcome) × (counts : Counts)
       × (outcome_status outcome ≡ 0) × TrimsFiles (filed old a) old.bytes new.bytes outcome counts
-  pub reported : IsTrue old.tells → (file : List ℕ) → (filed old a).report ≡ Some file →
-      HoldsReport a (filed old a) old.bytes new.bytes file
+  pub reported : AreFilesTold (filed old a) old.tells → (file : List ℕ) →
+      (filed old a).report ≡ Some file → HoldsReport a (filed old a) old.bytes new.bytes file
 
 -- all pairs were trimmed, up to the end of the inputs or a fault in them, and the report could not
 -- be written, for what its device said
@@ -148,11 +150,11 @@ pub record IsUnreported (a : Asking)
   pub its_error : MaySay old.may_say (filed old a).report (Some said)
   pub status_is : status ≡ 4
   pub text_is : (text ≡ report_line a (Some (Some said))) ⊎ (text ≡ report_line a None)
-  pub left : IsTrue old.tells →
+  pub left : AreFilesTold (filed old a) old.tells →
       (outcome : Outcome) × (counts : Counts)
       × TrimsFiles (filed old a) old.bytes new.bytes outcome counts
-  pub begun : IsTrue old.tells → (file : List ℕ) → (filed old a).report ≡ Some file →
-      BeginsReport a (filed old a) old.bytes new.bytes file
+  pub begun : AreFilesTold (filed old a) old.tells → (file : List ℕ) →
+      (filed old a).report ≡ Some file → BeginsReport a (filed old a) old.bytes new.bytes file
 
 -- the file of the report holds what it held before, or nothing, or the whole report
 abbrev pub IsReportUncut : Asking → Asking → Holding → Holding → List ℕ → Type 0
@@ -164,9 +166,9 @@ pub record IsUntold (a : Asking)
     (old new : FilesState) (status : ℕ) (text : List ℕ) : Type 0 where
   pub status_is : status ≡ 5
   pub text_is : (text ≡ memory_line) ⊎ (text ≡ report_memory_line a)
-  pub left : IsTrue old.tells → AreLeft (filed old a) old.bytes new.bytes
-  pub report_left : IsTrue old.tells → (file : List ℕ) → (filed old a).report ≡ Some file →
-      IsReportUncut a (filed old a) old.bytes new.bytes file
+  pub left : AreFilesTold (filed old a) old.tells → AreLeft (filed old a) old.bytes new.bytes
+  pub report_left : AreFilesTold (filed old a) old.tells → (file : List ℕ) →
+      (filed old a).report ≡ Some file → IsReportUncut a (filed old a) old.bytes new.bytes file
 
 -- standard error took the line of one of these, which has this status, and nothing else
 pub record TookLine (a : Asking)
@@ -213,7 +215,8 @@ pub record NamesRefused (a : Asking) (old : FilesState) (err : Device) : Type 0 
   pub why : Refusal
   pub status_is : status_of why ≡ 4
   pub told : TookText err (line_of a why)
-  pub inputs : IsTrue old.tells → TellsInputs (filed old a).inputs why old
+  pub inputs : AreInputsTold (filed old a).inputs old.tells →
+      TellsInputs (filed old a).inputs why old
   pub refused : IsRefusable a (MayRefuseName a.inputs (filed old a).inputs old) why
 
 -- a device of that name has failed, and may say the error that is told, or the input of that side
@@ -225,7 +228,7 @@ pub record NamesFailed (a : Asking) (old new : FilesState) (err : Device) : Type
   pub told : TookText err (ending_line a seen outcome)
   pub has_failed : HasFailed (filed old a) old new outcome
   pub its_error : IsItsError (filed old a) old.may_say outcome seen
-  pub as_it_is : IsTrue old.tells → settled outcome ≡ outcome
+  pub as_it_is : AreInputsTold (filed old a).inputs old.tells → settled outcome ≡ outcome
 
 -- the report's device has failed, and may say the error that is told
 pub record NamesReport (a : Asking) (old new : FilesState) (err : Device) : Type 0 where
@@ -252,18 +255,20 @@ IsReportLeft a f old new file = ((new file ≡ old file) ⊎ (new file ≡ Some 
 -- How a call with a request ends: the pairs are trimmed, or the request is refused.
 pub record PairsAnswered (a : Asking)
     (old new : FilesState) (out err : Device) (status : ℕ) : Type 0 where
-  pub whole : (status ≡ 0) ⊎ (status ≡ 3) → IsTrue old.tells →
+  pub whole : (status ≡ 0) ⊎ (status ≡ 3) → AreFilesTold (filed old a) old.tells →
       EndsWhole a old new out err status
   pub wrong : (why : Refusal) → wrong_with a ≡ Some why → Refuses a why err status
   pub right : status ≡ 2 → IsSome (wrong_with a)
   pub line : status ≢ 0 → TookLine a old new out err status
   pub known : status ≢ 1
-  pub left : status ≢ 6 → IsTrue old.tells → AreLeft (filed old a) old.bytes new.bytes
-  pub reported : (status ≡ 0) ⊎ (status ≡ 3) → IsTrue old.tells → (file : List ℕ) →
-      (filed old a).report ≡ Some file → HoldsReport a (filed old a) old.bytes new.bytes file
-  pub report_left : IsTrue old.tells → (file : List ℕ) → (filed old a).report ≡ Some file →
-      IsReportLeft a (filed old a) old.bytes new.bytes file
-  pub unopened : IsTrue old.tells → (side : Side) →
+  pub left : status ≢ 6 → AreFilesTold (filed old a) old.tells →
+      AreLeft (filed old a) old.bytes new.bytes
+  pub reported : (status ≡ 0) ⊎ (status ≡ 3) → AreFilesTold (filed old a) old.tells →
+      (file : List ℕ) → (filed old a).report ≡ Some file →
+      HoldsReport a (filed old a) old.bytes new.bytes file
+  pub report_left : AreFilesTold (filed old a) old.tells → (file : List ℕ) →
+      (filed old a).report ≡ Some file → IsReportLeft a (filed old a) old.bytes new.bytes file
+  pub unopened : (side : Side) → IsTrue (old.tells (input_name (filed old a).inputs side)) →
       old.bytes (input_name (filed old a).inputs side) ≡ None →
       IsUnchanged old.bytes new.bytes
 

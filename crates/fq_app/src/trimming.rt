@@ -9,7 +9,7 @@ ghost use Rattle.fq_app_files.specs.declared.refusal.Refusal.{Refusal as Refused
 ghost use Rattle.fq_app_files.specs.Refusals.{status_of};
 ghost use Rattle.fq_app_words.specs.Requests.{asking_of, input_name};
 ghost use Rattle.fq_app_files.specs.Judging.{settings_of, wrong_with};
-ghost use Rattle.fq_app_files.specs.Trimming.{filed, KeepsUnnamed, opened_of, left_of, form_of, run_in, AreFresh};
+ghost use Rattle.fq_app_files.specs.Trimming.{filed, AreMadeTold, KeepsUnnamed, opened_of, left_of, form_of, run_in, AreFresh};
 ghost use Rattle.fq_app_files.specs.Opening.{AreReady, AreOpened, IsRefused, SparesInputs};
 ghost use Rattle.fq_app_files.specs.Completing.{IsCompleted, IsWitnessed};
 ghost use Rattle.fq_app_files.specs.Seeing.{IsReportError};
@@ -66,7 +66,8 @@ pub fn trim_files<R: Threads + Wait + Copy + Send + 'static, T: Files>(
         (filed (T.state files.old) (asking_of request.now))
         (T.state files.old).may_say completed.reported completed.report_error) }
 
-    ensures rest { IsTrue (T.state files.old).tells
+    ensures rest { AreMadeTold (filed (T.state files.old) (asking_of request.now))
+        (T.state files.old).tells
         → KeepsUnnamed (filed (T.state files.old) (asking_of request.now))
         (T.state files.old).bytes (T.state files.new).bytes }
 
@@ -86,7 +87,8 @@ pub fn trim_files<R: Threads + Wait + Copy + Send + 'static, T: Files>(
         → IfErr result (λ why. status_of why ≢ 2) }
 
     // If an input does not exist, no output is made.
-    ensures unopened { IsTrue (T.state files.old).tells → (side : Side)
+    ensures unopened { (side : Side) → IsTrue ((T.state files.old).tells (input_name
+        (filed (T.state files.old) (asking_of request.now)).inputs side))
         → (T.state files.old).bytes (input_name
         (filed (T.state files.old) (asking_of request.now)).inputs side) ≡ None
         → IsUnchanged (T.state files.old).bytes (T.state files.new).bytes }

@@ -277,7 +277,7 @@ has_failed : (a : Asking) (old new : FilesState) (o : Outcome)
     → ((out : Out) → o ≡ Write out → (name : List ℕ) × (output_name a out ≡ Some name) × IsTrue
     (new.has_failed name))
     → ((side : Side) → o ≡ Read side → IsTrue (new.has_failed (input_name a.inputs side)))
-    → ((side : Side) → o ≡ Endless side → IsTrue old.tells →
+    → ((side : Side) → o ≡ Endless side → IsTrue (old.tells (input_name a.inputs side)) →
     (c : Choices) × (bytes : List ℕ) × (settings_of a ≡ Ok c)
     × (old.bytes (input_name a.inputs side) ≡ Some bytes) × (c.max_reads ≤ length bytes))
     → HasFailed a old new o
@@ -292,17 +292,19 @@ has_failed a old new (Input found) write read endless = tt
 has_failed a old new Finished write read endless = tt
 
 -- the bytes of the input of a side, in a run of these inputs
-bytes_in : (a : Asking) (old : Holding) (inputs : Opened) (run : Run) →
+bytes_in : (a : Asking) (old : FilesState) (inputs : Opened) (run : Run) →
     run.forward ≡ inputs.forward → run.reverse ≡ inputs.reverse → AreFed inputs a.inputs old →
-    (side : Side)
-    → IsTrue (feed_of side run).tells × (old (input_name a.inputs side) ≡ Some
+    (side : Side) → IsTrue (old.tells (input_name a.inputs side))
+    → IsTrue (feed_of side run).tells × (old.bytes (input_name a.inputs side) ≡ Some
     (feed_of side run).to_come)
-bytes_in a old inputs run forward reverse fed Forward =
-    let P : FeedState → Type 0 = λ f. IsTrue f.tells × (old a.inputs.forward ≡ Some f.to_come) in
-    subst P (sym forward) (fed.forward.told, fed.forward.bytes_are)
-bytes_in a old inputs run forward reverse fed Reverse =
-    let P : FeedState → Type 0 = λ f. IsTrue f.tells × (old a.inputs.reverse ≡ Some f.to_come) in
-    subst P (sym reverse) (fed.reverse.told, fed.reverse.bytes_are)
+bytes_in a old inputs run forward reverse fed Forward told =
+    let P : FeedState → Type 0 =
+    λ f. IsTrue f.tells × (old.bytes a.inputs.forward ≡ Some f.to_come) in
+    subst P (sym forward) ((fed.forward told).told, (fed.forward told).bytes_are)
+bytes_in a old inputs run forward reverse fed Reverse told =
+    let P : FeedState → Type 0 =
+    λ f. IsTrue f.tells × (old.bytes a.inputs.reverse ≡ Some f.to_come) in
+    subst P (sym reverse) ((fed.reverse told).told, (fed.reverse told).bytes_are)
 
 one_or_more : (n : ℕ) → n ≡ 1 → 0 < n
 one_or_more n is = omega (arith, is)
@@ -314,7 +316,7 @@ pub fails_as_told : (a : Asking) (old : FilesState) (c : Choices) (inputs : Open
     → settings_of a ≡ Ok c → run.forward ≡ inputs.forward → run.reverse ≡ inputs.reverse →
     is_some run.outlets.log ≡ is_some a.log
     → ((side : Side) → feed_left side run ≡ left side) →
-    (IsTrue old.tells → AreFed inputs a.inputs old.bytes) → EveryEnding c run
+    AreFed inputs a.inputs old → EveryEnding c run
     → AreFeedsCounted a.inputs left x y → AreCounted a run.outlets_left 5 y z →
     KeepsFailed z w → HasFailed a old w run.outcome
 fails_as_told a old c inputs run left x y z w settings forward reverse log sides fed every
@@ -332,7 +334,7 @@ fails_as_told a old c inputs run left x y z w settings forward reverse log sides
     let some = one_or_more _ (subst P (sides side) (every.outcome.read side is)) in
     still _ (outlets.still _ (feeds.failed side some)))
     (λ side is told.
-    let there = bytes_in a old.bytes inputs run forward reverse (fed told) side in
+    let there = bytes_in a old inputs run forward reverse fed side told in
     (c, (feed_of side run).to_come, settings, there.1, endless_input c run every side is there.0))
   where
     below_five : (out : Out) → place out < 5

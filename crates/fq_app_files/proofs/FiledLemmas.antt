@@ -21,10 +21,6 @@ use Rattle.fq_app_files.specs.Trimming.{filed, WriteTheirs}
 pub leads_as : (old new : FilesState) → new ≡ old → new.leads ≡ old.leads
 leads_as old new same = ap (λ (files : FilesState). files.leads) same
 
--- a call leaves which outlets write which files
-pub writes_as : (old new : FilesState) → new ≡ old → new.writes ≡ old.writes
-writes_as old new same = ap (λ (files : FilesState). files.writes) same
-
 -- an output's name leads to its file
 pub named_filed : (files : FilesState) (a : Asking) (out : Out) →
     output_name (filed files a) out ≡ option_map files.leads (output_name a out)
@@ -69,7 +65,7 @@ settings_filed files a = at_encoding (encoding_of a.encoding)
 -- outlets that keep their files still write those of their outputs
 pub theirs_after : (f : Asking) (files : FilesState) (before after : OutletStates) →
     KeepFiles before after → WriteTheirs f files before → WriteTheirs f files after
-theirs_after f files before after keep theirs out file outlet named at =
+theirs_after f files before after keep theirs out file outlet named at told =
     found (outlet_at out before) refl (ap (option_map (λ o. o.file)) (sym at) ∙ keep out)
   where
     found : (o : Option OutletState) → outlet_at out before ≡ o →
@@ -77,5 +73,5 @@ theirs_after f files before after keep theirs out file outlet named at =
     found (Some first) there same =
         let own : first.file ≡ outlet.file = cc in
         subst (λ (number : Option ℕ). IsTrue (files.writes number file)) own
-        (theirs out file first named there)
+        (theirs out file first named there told)
     found None there same = absurd cc

@@ -7,12 +7,13 @@ use Rattle.fq_pair.specs.declared.out.Out.{Out}
 use Rattle.fq_pair.specs.declared.out.Out.TheVariants.{ForwardPaired, ForwardUnpaired, ReversePaired, ReverseUnpaired, Log}
 use Rattle.fq_files.specs.Holding.{Holding, KeepsOthers}
 use Rattle.fq_files.specs.States.{FilesState, OnlyWrites}
+use Rattle.fq_files.proofs.StateLemmas.{told_before}
 use Rattle.fq_text.specs.Devices.{OutletState}
 use Rattle.fq_run_core.specs.Devices.{OutletStates, outlet_at, place}
 use Rattle.fq_app_files.specs.Refusals.{IsMemory, IsTarget, IsReport}
 use Rattle.fq_app_files.specs.declared.refusal.Refusal.{Refusal}
 use Rattle.fq_app_words.specs.Requests.{Asking, output_name}
-use Rattle.fq_app_files.specs.Trimming.{IsNoOutput, KeepsRest, AreHeld}
+use Rattle.fq_app_files.specs.Trimming.{IsNoOutput, KeepsRest, AreHeld, AreMadeTold}
 use Rattle.fq_app_files.specs.Leaving.{AreUntrimmed, StopsAt, RefusalLeaves}
 use Rattle.fq_app_files.specs.Making.{AreMade, Made, Unmade}
 use Rattle.fq_app_files.proofs.StoreLemmas.{same_place, below_next}
@@ -221,26 +222,28 @@ leaves_made a start old new this refusal first unmade is =
 module _ (a : Asking) (start : Holding) (this : Out) (name : List ℕ)
     (named : output_name a this ≡ Some name)
     (old new : FilesState) (kept : OnlyWrites old new)
-    (first : Made a start (place this) old) (others : IsTrue old.tells →
+    (first : Made a start (place this) old) (others : IsTrue (old.tells name) →
     KeepsOthers old.bytes new.bytes name) where
-  before : IsTrue new.tells → IsTrue old.tells
-  before told = subst IsTrue (ap (λ (files : FilesState). files.tells) kept) told
+  before : AreMadeTold a new.tells → AreMadeTold a old.tells
+  before told = told_before (AreMadeTold a) _ _ kept told
+
+  own : AreMadeTold a new.tells → IsTrue (old.tells name)
+  own told = before told name (inl (this, named))
 
   -- if the output is made, one more has been made
-  pub one_made : (IsTrue old.tells → new.bytes name ≡ Some []) →
+  pub one_made : (IsTrue (old.tells name) → new.bytes name ≡ Some []) →
       Made a start (suc (place this)) new
   one_made emptied told =
       next_made a start old.bytes new.bytes this (first (before told))
-      (made_of a this name old.bytes new.bytes named (emptied (before told))
-      (others (before told)))
+      (made_of a this name old.bytes new.bytes named (emptied (own told)) (others (own told)))
 
   -- if the output is refused, the files hold what its refusal leaves
-  pub none_more : (refusal : Refusal) → (IsTrue old.tells → (new.bytes name ≡ old.bytes name)
-      ⊎ (new.bytes name ≡ Some [])) → IsTarget this refusal ⊎ IsMemory refusal →
-      Unmade a refusal start new
+  pub none_more : (refusal : Refusal) → (IsTrue (old.tells name) →
+      (new.bytes name ≡ old.bytes name) ⊎ (new.bytes name ≡ Some [])) →
+      IsTarget this refusal ⊎ IsMemory refusal → Unmade a refusal start new
   none_more refusal there is told =
-      let unmade = unmade_of a this name old.bytes new.bytes named (there (before told))
-      (others (before told)) in
+      let unmade = unmade_of a this name old.bytes new.bytes named (there (own told))
+      (others (own told)) in
       record {
         rest = rest_unmade a start old.bytes new.bytes this (first (before told)) unmade;
         leaves = leaves_made a start old.bytes new.bytes this refusal (first (before told))

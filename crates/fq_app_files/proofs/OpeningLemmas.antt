@@ -2,7 +2,7 @@
 use Rattle.std.proofs.Common.{◌≡◌, ◌≢◌, ◌⊎◌, ◌∙◌, ℕ, Bool, true, false, IsTrue, IsSome, Option, Some, None, option_map, Ok, Err, Result, List, refl, sym, ap, subst, inl, inr, ⊎_elim}
 use Rattle.std.specs.Prelude.{if◌then◌else◌, unwrap_or}
 use Rattle.fq_text.specs.Scores.{encoding_of}
-use Rattle.fq_files.specs.Holding.{Holding, KeepsFiles}
+use Rattle.fq_files.specs.Holding.{Holding}
 use Rattle.fq_files.specs.States.{Causes, FilesState, Keys, MayRefuse, MayRefuseInput, OnlyOpens, OnlyWrites}
 use Rattle.fq_files.specs.declared.files.Cause.{Cause}
 use Rattle.fq_files.specs.declared.files.Cause.TheVariants as cause
@@ -25,57 +25,45 @@ use Rattle.fq_app_files.specs.declared.refusal.Refusal.{Refusal}
 use Rattle.fq_app_files.specs.declared.refusal.Refusal.TheVariants as why
 use Rattle.fq_app_files.specs.Refusals.{status_of, IsMemory, IsRefusable, IsTarget, IsReport}
 use Rattle.fq_app_files.specs.Judging.{choices_of, judged, with_steps, with_encoding, settings_of, wrong_among, wrong_with}
-use Rattle.fq_app_files.specs.Trimming.{Opened, IsNoOutput, KeepsUnnamed, AreFed, filed}
-use Rattle.fq_app_files.specs.Leaving.{AreThere, TellsInputs, RefusalLeaves, ReportLeft, is_late}
+use Rattle.fq_app_files.specs.Trimming.{Opened, IsMade, IsNoOutput, KeepsUnnamed, AreFed, AreInputsTold, AreMadeTold, filed}
+use Rattle.fq_app_files.specs.Leaving.{TellsInputs, RefusalLeaves, ReportLeft, is_late}
 use Rattle.fq_app_files.specs.Making.{Made, AreOutputsRefused, IsOutputRefused}
-use Rattle.fq_app_files.specs.Opening.{AreNoInputs, IsMade, IsRefused, IsUnopened, MayLead, MayRefuseName}
+use Rattle.fq_app_files.specs.Opening.{AreNoInputs, IsRefused, IsUnopened, MayLead, MayRefuseName}
 use Rattle.fq_app_files.proofs.FiledLemmas.{named_filed}
 use Rattle.fq_app_files.proofs.LeavingLemmas.{tells_late}
 use Rattle.fq_app_files.proofs.MakingLemmas.{this_or_other}
-
-some_there : (o : Option (List ℕ)) (bytes : List ℕ) → o ≡ Some bytes → IsSome o
-some_there o bytes is = let P : Option (List ℕ) → Type 0 = λ x. IsSome x in subst P (sym is) refl
 
 not_none : (o : Option (List ℕ)) (bytes : List ℕ) → o ≡ Some bytes → o ≡ None → ⊥
 not_none o bytes some none = let bad : Some bytes ≡ None = sym some ∙ none in cc
 
 -- the file of an input exists if its feed has the bytes of it
-pub fed_there : (inputs : Opened) (names : InputNames) (old : Holding) → AreFed inputs names old →
-    (side : Side) → old (input_name names side) ≡ None → ⊥
-fed_there inputs names old fed Forward none =
-    not_none (old names.forward) _ fed.forward.bytes_are none
-fed_there inputs names old fed Reverse none =
-    not_none (old names.reverse) _ fed.reverse.bytes_are none
-
--- the inputs exist in files that keep every name
-pub still_there : (inputs : Opened) (names : InputNames) (old new : Holding) →
-    AreFed inputs names old → KeepsFiles old new → AreThere names new
-still_there inputs names old new fed keeps = (
-  keeps names.forward (some_there _ _ fed.forward.bytes_are),
-  keeps names.reverse
-      (some_there _ _ fed.reverse.bytes_are),
-)
+pub fed_there : (inputs : Opened) (names : InputNames) (old : FilesState) →
+    AreFed inputs names old → (side : Side) → IsTrue (old.tells (input_name names side)) →
+    old.bytes (input_name names side) ≡ None → ⊥
+fed_there inputs names old fed Forward told none =
+    not_none (old.bytes names.forward) _ (fed.forward told).bytes_are none
+fed_there inputs names old fed Reverse told none =
+    not_none (old.bytes names.reverse) _ (fed.reverse told).bytes_are none
 
 -- an output was refused, or the report
 pub refused_late : (a : Asking) (refusal : Refusal) (old new : FilesState) (inputs : Opened) →
     IsTrue (is_late refusal) → status_of refusal ≢ 2 →
     IsRefusable a (MayLead a.inputs old) refusal
-    → (IsTrue old.tells → AreFed inputs a.inputs old.bytes) →
-    (IsTrue old.tells → RefusalLeaves a refusal old.bytes new.bytes)
-    → (IsTrue old.tells → (name : List ℕ) → a.report ≡ Some name → IsNoOutput a name →
+    → AreFed inputs a.inputs old →
+    (AreMadeTold a old.tells → RefusalLeaves a refusal old.bytes new.bytes)
+    → (AreMadeTold a old.tells → (name : List ℕ) → a.report ≡ Some name → IsNoOutput a name →
     ReportLeft refusal (old.bytes name) (new.bytes name)) →
-    (IsTrue old.tells → KeepsUnnamed a old.bytes new.bytes) → IsUnopened a refusal old new
+    (AreMadeTold a old.tells → KeepsUnnamed a old.bytes new.bytes) → IsUnopened a refusal old new
 refused_late a refusal old new inputs after late refused fed left report_left
     rest = record {
       late = late;
       refused = refused;
       inputs = λ told. tells_late a.inputs refusal old _ _ after
-          (fed told).forward.bytes_are (fed told).reverse.bytes_are;
+          (fed.forward told.0).bytes_are (fed.reverse told.1).bytes_are;
       left = left;
       report_left = report_left;
       rest = rest;
-      unopened = λ told side none.
-          absurd (fed_there inputs a.inputs old.bytes (fed told) side none);
+      unopened = λ side told none. absurd (fed_there inputs a.inputs old fed side told none);
     }
 
 -- a refusal of the report, or of memory for it, comes after the inputs, and its status is not 2
@@ -389,24 +377,31 @@ pub inputs_kept : (a : Asking) (old new : Holding) → AreNoInputs a → KeepsUn
     (side : Side) → new (input_name a.inputs side) ≡ old (input_name a.inputs side)
 inputs_kept a old new apart kept side = kept _ (apart side).0 (apart side).1
 
--- no output leads to an input, and nor does the report
-pub leads_nowhere : (a : Asking) (before after : Keys) → after ≡ before
-    → ((out : Out) (name : List ℕ) → output_name a out ≡ Some name → before name ≡ false) →
-    ((name : List ℕ) → a.report ≡ Some name → before name ≡ false) → (name : List ℕ) →
-    IsMade a name → IsTrue (after name) → ⊥
-leads_nowhere a before after same outputs report name made leads =
+-- no output leads to an input whose bytes are known, and nor does the report
+pub leads_nowhere : (a : Asking) (before after tells : Keys) → after ≡ before
+    → ((out : Out) (name : List ℕ) → output_name a out ≡ Some name → IsTrue (tells name) →
+    before name ≡ false) →
+    ((name : List ℕ) → a.report ≡ Some name → IsTrue (tells name) → before name ≡ false) →
+    (name : List ℕ) → IsMade a name → IsTrue (tells name) → IsTrue (after name) → ⊥
+leads_nowhere a before after tells same outputs report name made told leads =
     let led : IsTrue (before name) = subst (λ (names : Keys). IsTrue (names name)) same leads in
-    ⊎_elim (λ output. clash (before name) led (outputs output.0 name output.1))
-    (λ named. clash (before name) led (report name named)) made
+    ⊎_elim (λ output. clash (before name) led (outputs output.0 name output.1 told))
+    (λ named. clash (before name) led (report name named told)) made
 
 -- if no output leads to an input, and nor does the report, their files are none of the inputs
-pub no_inputs : (a : Asking) (is_open : Keys) →
+pub no_inputs : (a : Asking) (is_open tells : Keys) →
     ((side : Side) → IsTrue (is_open (input_name a.inputs side)))
-    → ((out : Out) (name : List ℕ) → output_name a out ≡ Some name → is_open name ≡ false) →
-    ((name : List ℕ) → a.report ≡ Some name → is_open name ≡ false) → AreNoInputs a
-no_inputs a is_open opened outputs report side = (
-  λ out named. clash _ (opened side) (outputs out _ named),
-  λ named. clash _ (opened side) (report _ named),
+    → ((out : Out) (name : List ℕ) → output_name a out ≡ Some name → IsTrue (tells name) →
+    is_open name ≡ false) →
+    ((name : List ℕ) → a.report ≡ Some name → IsTrue (tells name) → is_open name ≡ false) →
+    AreInputsTold a.inputs tells → AreNoInputs a
+no_inputs a is_open tells opened outputs report told Forward = (
+  λ out named. clash _ (opened Forward) (outputs out _ named told.0),
+  λ named. clash _ (opened Forward) (report _ named told.0),
+)
+no_inputs a is_open tells opened outputs report told Reverse = (
+  λ out named. clash _ (opened Reverse) (outputs out _ named told.1),
+  λ named. clash _ (opened Reverse) (report _ named told.1),
 )
 
 -- ---- the reverse input
@@ -434,14 +429,15 @@ tells_reverse inputs refusal old mid (inr source) there kept linked =
           λ told. ⊎_elim (λ none. inl (sym (same_as _ _ kept inputs.reverse) ∙ none))
               (λ may. inr (subst (λ (files : FilesState).
               IsTrue (files.refuses inputs.reverse given)) kept may))
-              ((refused.missing error is).1 (told_as _ _ kept told)),
+              ((refused.missing error is).1
+              (told_as (λ tells. IsTrue (tells inputs.reverse)) _ _ kept told)),
         );
         twice = λ is. ⊎_elim
             (λ one. let twice : inputs.reverse ≡ inputs.forward = cc in inl twice)
             (λ other. inr (linked inputs.reverse (λ twice. other (ap Some (sym twice)))
             (refused.twice is)))
             (this_or_other (Some inputs.forward) inputs.reverse);
-        no_output = λ is. sym (ap (λ (files : FilesState). files.tells) kept)
+        no_output = λ is. sym (ap (λ (files : FilesState). files.tells inputs.reverse) kept)
             ∙ refused.no_output is;
       },
     )

@@ -1,13 +1,14 @@
 -- Outlets that are handed back one after the other.
-use Rattle.std.proofs.Common.{◌≡◌, ℕ, suc, ◌<◌, ◌==◌, IsTrue, Some, List, refl, sym, ap, subst, ◌∙◌, arith, if◌then◌else◌, ◌⊎◌, ⊎_elim}
+use Rattle.std.proofs.Common.{◌≡◌, ℕ, suc, ◌<◌, ◌==◌, inl, IsSome, IsTrue, Some, List, refl, sym, ap, subst, ◌∙◌, arith, if◌then◌else◌, ◌⊎◌, ⊎_elim}
 use Rattle.fq_pair.specs.declared.out.Out.{Out}
 use Rattle.fq_pair.specs.declared.out.Out.TheVariants.{ForwardPaired, ForwardUnpaired, ReversePaired, ReverseUnpaired, Log}
 use Rattle.fq_files.specs.Holding.{Holding, KeepsOthers}
 use Rattle.fq_files.specs.States.{FilesState, OnlyStores, StillHeld}
+use Rattle.fq_files.proofs.StateLemmas.{told_before}
 use Rattle.fq_text.specs.Devices.{OutletState}
 use Rattle.fq_run_core.specs.Devices.{OutletStates, outlet_at, place}
 use Rattle.fq_app_words.specs.Requests.{Asking, output_name}
-use Rattle.fq_app_files.specs.Trimming.{filed, AreHeld, HasOwnName, WriteTheirs}
+use Rattle.fq_app_files.specs.Trimming.{filed, AreHeld, AreMadeTold, HasOwnName, WriteTheirs}
 use Rattle.fq_app_files.specs.Making.{AreStored, HoldFirst, Stored}
 use Rattle.fq_app_files.proofs.RestLemmas.{rest_of, then_rest}
 
@@ -75,30 +76,34 @@ module _ (a : Asking) (states : OutletStates) (old new : Holding) where
 pub one_stored : (a : Asking) (start : Holding) (states : OutletStates) (this : Out) (file : List ℕ)
     (outlet : OutletState) (old new : FilesState) →
     output_name a this ≡ Some file → outlet_at this states ≡ Some outlet → OnlyStores old new →
-    (IsTrue old.tells → IsTrue (old.writes outlet.file file) →
+    (IsTrue (old.tells file) → IsTrue (old.writes outlet.file file) → IsSome (old.bytes file) →
     new.bytes file ≡ Some outlet.taken) →
-    (IsTrue old.tells → IsTrue (old.writes outlet.file file) →
-    KeepsOthers old.bytes new.bytes file)
+    (IsTrue (old.tells file) → IsTrue (old.writes outlet.file file) →
+    KeepsOthers old.bytes new.bytes file) → (AreMadeTold a old.tells → AreHeld a old.bytes)
     → Stored a start states (place this) old → Stored a start states (suc (place this)) new
-one_stored a start states this file outlet old new named at only kept others first told theirs =
-    let before = subst (λ (files : FilesState). IsTrue files.tells) only told in
+one_stored a start states this file outlet old new named at only kept others held first told
+    theirs =
+    let before = told_before (AreMadeTold a) _ _ only told in
     let all = subst (λ (files : FilesState). WriteTheirs a files states) only theirs in
-    let its = all this file outlet named at in
+    let own = before file (inl (this, named)) in
+    let its = all this file outlet named at own in
     record {
       rest = then_rest a start old.bytes new.bytes (first before all).rest
-          (rest_of a this file old.bytes new.bytes named (others before its));
+          (rest_of a this file old.bytes new.bytes named (others own its));
       hold = next_first a states old.bytes new.bytes this file outlet named at
-          (first before all).hold (kept before its) (others before its);
+          (first before all).hold (kept own its (held before this file named))
+          (others own its);
     }
 
 -- the file of each output still exists after a call that removes none
 pub still_held : (a : Asking) (old new : FilesState) → OnlyStores old new → StillHeld old new →
-    (IsTrue old.tells → AreHeld (filed old a) old.bytes) →
-    IsTrue new.tells → AreHeld (filed new a) new.bytes
+    (AreMadeTold (filed old a) old.tells → AreHeld (filed old a) old.bytes) →
+    AreMadeTold (filed new a) new.tells → AreHeld (filed new a) new.bytes
 still_held a old new only still held =
     let Held : FilesState → Type 0 =
-    λ files. IsTrue files.tells → AreHeld (filed files a) new.bytes in
-    subst Held (sym only) (λ told out file named. still told file (held told out file named))
+    λ files. AreMadeTold (filed files a) files.tells → AreHeld (filed files a) new.bytes in
+    subst Held (sym only) (λ told out file named. still file (told file (inl (out, named)))
+    (held told out file named))
 
 -- without a log, all outlets are handed back after the fourth
 pub no_log_stored : (a : Asking) (start : Holding) (states : OutletStates) (files : Holding)

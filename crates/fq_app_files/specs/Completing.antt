@@ -13,7 +13,7 @@ use Rattle.fq_run_core.specs.Endings.{ends_whole, failures_in}
 use Rattle.fq_app_words.specs.Requests.{Asking, InputNames, input_name, output_name}
 use Rattle.fq_app_files.specs.Faults.{settled}
 use Rattle.fq_app_files.specs.Judging.{settings_of}
-use Rattle.fq_app_files.specs.Trimming.{IsEmptyOutlet, KeepsUnnamed, TrimsFiles, WritesReport}
+use Rattle.fq_app_files.specs.Trimming.{AreFilesTold, AreInputsTold, AreMadeTold, IsEmptyOutlet, KeepsUnnamed, TrimsFiles, WritesReport}
 use Rattle.fq_app_files.specs.Leaving.{HoldFirstPairs}
 use Rattle.fq_app_files.specs.Reporting.{IsDue, IsNotDue, KeepsOutputs, ReportHeld, TookReport}
 use Rattle.fq_app_files.specs.Seeing.{IsItsError, IsSaid}
@@ -45,7 +45,7 @@ abbrev pub HasFailed : Asking → FilesState → FilesState → Outcome → Type
 HasFailed a old new (Write out) =
     (name : List ℕ) × (output_name a out ≡ Some name) × IsTrue (new.has_failed name)
 HasFailed a old new (Read side) = IsTrue (new.has_failed (input_name a.inputs side))
-HasFailed a old new (Endless side) = IsTrue old.tells →
+HasFailed a old new (Endless side) = IsTrue (old.tells (input_name a.inputs side)) →
     (c : Choices) × (bytes : List ℕ) × (settings_of a ≡ Ok c)
     × (old.bytes (input_name a.inputs side) ≡ Some bytes) × (c.max_reads ≤ length bytes)
 HasFailed a old new _ = Unit {0}
@@ -68,8 +68,8 @@ pub record IsReportStored (a f : Asking) (encoding : Encoding) (account : Accoun
     (outlet : Option OutletState) (reported : Reported) (old new : FilesState) : Type 0 where
   pub due : reported ≢ became.NotDue → IsDue account.outcome
   pub not_due : reported ≡ became.NotDue → IsSome a.report → IsNotDue account.outcome
-  pub took : IsTrue old.tells → IfSome outlet IsEmptyOutlet →
-      WritesReport f old outlet → (file : List ℕ) → f.report ≡ Some file → (bytes : List ℕ)
+  pub took : IfSome outlet IsEmptyOutlet → WritesReport f old outlet → (file : List ℕ) →
+      f.report ≡ Some file → IsTrue (old.tells file) → (bytes : List ℕ)
       × (new.bytes file ≡ Some bytes) × TookReport reported a encoding account [] bytes
   pub others : WritesReport f old outlet → KeepsOutputs f old new
   pub failed : reported ≡ became.Failed → ReportFailed f new
@@ -85,24 +85,24 @@ pub record IsReportStored (a f : Asking) (encoding : Encoding) (account : Accoun
 pub record IsCompleted (a f : Asking) (old new : FilesState)
     (outcome : Outcome) (counts : Counts) (reported : Reported) (seen : EndingSeen) : Type 0 where
   -- If it ended whole, all pairs were trimmed.
-  pub trims : IsTrue old.tells →
+  pub trims : AreFilesTold f old.tells →
       IsTrue (ends_whole outcome) → TrimsFiles f old.bytes new.bytes outcome counts
   -- At every ending except an unconfirmed lane, the files of the outputs hold the texts of the
   -- first pairs.
-  pub ended : IsTrue old.tells →
+  pub ended : AreFilesTold f old.tells →
       outcome ≢ Lane → HoldFirstPairs f old.bytes new.bytes outcome
-  pub rest : IsTrue old.tells → KeepsUnnamed f old.bytes new.bytes
+  pub rest : AreMadeTold f old.tells → KeepsUnnamed f old.bytes new.bytes
   -- If the run ended whole, the report covers the pairs of the inputs; at other endings its file is
   -- empty.
   pub due : reported ≢ became.NotDue → IsDue outcome
   pub not_due : reported ≡ became.NotDue → IsSome a.report → IsNotDue outcome
-  pub report : IsTrue old.tells → (file : List ℕ) →
-      f.report ≡ Some file → ReportHeld reported a f old.bytes new.bytes file
+  pub report : AreInputsTold f.inputs old.tells → (file : List ℕ) → f.report ≡ Some file →
+      IsTrue (old.tells file) → ReportHeld reported a f old.bytes new.bytes file
   -- A failure that is reported is one of the device that the message names. If no failure is
   -- reported, no device has failed.
   pub failed : outcome ≢ Lane → HasFailed f old new outcome
-  pub as_it_is : IsTrue old.tells → settled outcome ≡ outcome
-  pub said : IsTrue old.tells → IsSaid old.looks f old.bytes (settled outcome) seen
+  pub as_it_is : AreInputsTold f.inputs old.tells → settled outcome ≡ outcome
+  pub said : AreFilesTold f old.tells → IsSaid old.looks f old.bytes (settled outcome) seen
   pub its_error : IsItsError f old.may_say outcome seen
   pub report_failed : reported ≡ became.Failed → ReportFailed f new
   pub sound : IsTrue (ends_whole outcome) → reported ≢ became.Failed →

@@ -9,7 +9,7 @@ use Rattle.fq_run_core.specs.Devices.{OutletStates, AreFlushed, AreHealthy, outl
 use Rattle.fq_app_words.specs.Requests.{Asking, output_name}
 use Rattle.fq_app_files.specs.declared.refusal.Refusal.{Refusal}
 use Rattle.fq_app_files.specs.Refusals.{status_of, IsMemory, IsRefusable, IsTarget}
-use Rattle.fq_app_files.specs.Trimming.{HasOwnName, KeepsRest, AreEmpty, IsEmptyOutlet, WriteTheirs}
+use Rattle.fq_app_files.specs.Trimming.{HasOwnName, KeepsRest, AreEmpty, AreMadeTold, IsEmptyOutlet, WriteTheirs}
 use Rattle.fq_app_files.specs.Leaving.{RefusalLeaves, is_late}
 
 -- the first n outputs have been made, and a name that only the others have, or none, is unchanged
@@ -24,20 +24,20 @@ pub record StopsMaking (a : Asking) (why : Refusal) (start files : Holding) : Ty
   pub rest : KeepsRest a start files
   pub leaves : RefusalLeaves a why start files
 
--- the first n outputs have been made, if the bytes of the files are known
+-- the first n outputs have been made, if the bytes of all files that are made are known
 abbrev pub Made : Asking → Holding → ℕ → FilesState → Type 0
-Made a start n files = IsTrue files.tells → AreMade a start n files.bytes
+Made a start n files = AreMadeTold a files.tells → AreMade a start n files.bytes
 
 abbrev pub Unmade : Asking → Refusal → Holding → FilesState → Type 0
-Unmade a why start files = IsTrue files.tells → StopsMaking a why start files.bytes
+Unmade a why start files = AreMadeTold a files.tells → StopsMaking a why start files.bytes
 
 -- All outputs have been made: each is empty, and its outlet has not failed and has taken nothing.
 pub record AreOutputsMade (a : Asking)
     (old new : FilesState) (outlets : OutletStates) : Type 0 where
   pub healthy : AreHealthy outlets
   pub log : is_some outlets.log ≡ is_some a.log
-  pub empty : IsTrue old.tells → AreEmpty outlets
-  pub theirs : IsTrue old.tells → WriteTheirs a old outlets
+  pub empty : AreMadeTold a old.tells → AreEmpty outlets
+  pub theirs : WriteTheirs a old outlets
   pub made : Made a old.bytes 5 new
 
 -- An output or memory for it was refused: what its refusal says, and what the files then hold.
@@ -51,8 +51,8 @@ pub record AreOutputsRefused (a : Asking) (why : Refusal) (old new : FilesState)
 pub record IsOutputMade (a : Asking) (out : Out)
     (old new : FilesState) (outlet : OutletState) : Type 0 where
   pub fresh : outlet.failures ≡ 0
-  pub empty : IsTrue old.tells → IsEmptyOutlet outlet
-  pub theirs : IsTrue old.tells → (file : List ℕ) → output_name a out ≡ Some file →
+  pub empty : AreMadeTold a old.tells → IsEmptyOutlet outlet
+  pub theirs : (file : List ℕ) → output_name a out ≡ Some file → IsTrue (old.tells file) →
       IsTrue (old.writes outlet.file file)
   pub made : (start : Holding) → Made a start (place out) old → Made a start (suc (place out)) new
 
@@ -75,10 +75,10 @@ pub record AreStored (a : Asking) (start : Holding)
   pub rest : KeepsRest a start files
   pub hold : HoldFirst n a states files
 
--- the outlets of the first n outputs have been handed back, if the bytes of the files are known and
--- each outlet writes its file
+-- the outlets of the first n outputs have been handed back, if the bytes of all files that are made
+-- are known and each outlet writes its file
 abbrev pub Stored : Asking → Holding → OutletStates → ℕ → FilesState → Type 0
-Stored a start states n files = IsTrue files.tells → WriteTheirs a files states →
+Stored a start states n files = AreMadeTold a files.tells → WriteTheirs a files states →
     AreStored a start states n files.bytes
 
 -- the first n outlets of the outputs were handed back

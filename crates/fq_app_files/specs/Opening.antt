@@ -12,14 +12,14 @@ use Rattle.fq_app_words.specs.Requests.{Asking, InputNames, input_name, is_input
 use Rattle.fq_app_files.specs.declared.refusal.Refusal.{Refusal}
 use Rattle.fq_app_files.specs.declared.refusal.Refusal.TheVariants as refusal
 use Rattle.fq_app_files.specs.Refusals.{status_of, IsMemory, IsRefusable, IsReport}
-use Rattle.fq_app_files.specs.Trimming.{Opened, IsNoOutput, KeepsUnnamed, IsFed, AreFresh, AreFed, AreEmpty, IsEmptyOutlet, AreHeld, WriteTheirs, WritesReport}
-use Rattle.fq_app_files.specs.Leaving.{AreThere, TellsInputs, RefusalLeaves, ReportLeft, is_early}
+use Rattle.fq_app_files.specs.Trimming.{Opened, IsMade, IsNoOutput, KeepsUnnamed, AreInputsTold, AreMadeTold, IsFed, AreFresh, AreFed, AreEmpty, IsEmptyOutlet, AreHeld, WriteTheirs, WritesReport}
+use Rattle.fq_app_files.specs.Leaving.{TellsInputs, RefusalLeaves, ReportLeft, is_early}
 use Rattle.fq_app_files.specs.Reporting.{IsReportOpen}
 
 -- An input was opened: its feed has the bytes of the file of this name, and has not failed.
 pub record IsInputOpened (name : List ℕ) (old : FilesState) (feed : FeedState) : Type 0 where
   pub fresh : feed.failures ≡ 0
-  pub fed : IsTrue old.tells → IsFed feed.tells feed.to_come (old.bytes name)
+  pub fed : IsTrue (old.tells name) → IsFed feed.tells feed.to_come (old.bytes name)
 
 -- An input or memory for it was refused, an input for the cause that the files gave.
 pub record IsInputRefused (names : InputNames)
@@ -34,11 +34,11 @@ pub record IsInputRefused (names : InputNames)
 pub record AreInputsOpened (names : InputNames) (old : FilesState) (inputs : Opened) : Type 0 where
   pub form : inputs.form ≡ names.form
   pub fresh : AreFresh inputs
-  pub fed : IsTrue old.tells → AreFed inputs names old.bytes
+  pub fed : AreFed inputs names old
 
 -- One of the inputs or memory for it was refused.
 pub record AreInputsRefused (names : InputNames) (why : Refusal) (old : FilesState) : Type 0 where
-  pub inputs : IsTrue old.tells → TellsInputs names why old
+  pub inputs : AreInputsTold names old.tells → TellsInputs names why old
   pub early : IsTrue (is_early why)
   pub late : status_of why ≢ 2
 
@@ -47,28 +47,29 @@ pub record AreInputsRefused (names : InputNames) (why : Refusal) (old : FilesSta
 pub record IsReportMade (a : Asking)
     (files : FilesState) (report : Option OutletState) : Type 0 where
   pub opened : IsReportOpen a files report
-  pub empty : IsTrue files.tells → IfSome report IsEmptyOutlet
-  pub theirs : IsTrue files.tells → WritesReport a files report
+  pub empty : (file : List ℕ) → a.report ≡ Some file → IsTrue (files.tells file) →
+      IfSome report IsEmptyOutlet
+  pub theirs : WritesReport a files report
 
 -- The report's file or memory for it was refused: the file holds what it held, or nothing.
 pub record IsReportRefused (a : Asking) (why : Refusal) (old new : FilesState) : Type 0 where
   pub why_is : IsReport why ⊎ IsMemory why
   pub refused : IsRefusable a (MayRefuse old) why
-  pub left : IsTrue old.tells → (name : List ℕ) → a.report ≡ Some name →
+  pub left : (name : List ℕ) → a.report ≡ Some name → IsTrue (old.tells name) →
       (new.bytes name ≡ old.bytes name) ⊎ (new.bytes name ≡ Some [])
 
--- Everything that a run needs is open: no device has failed and the names exist. If the bytes of
--- the files are known to the proof, those of the outlets are too, and the outlets are empty.
+-- Everything that a run needs is open: no device has failed and the outputs exist. If the bytes of
+-- the files that are made are known to the proof, those of the outlets are too, and the outlets are
+-- empty.
 pub record AreReady (a : Asking) (files : FilesState)
     (inputs : Opened) (outlets : OutletStates) (report : Option OutletState) : Type 0 where
   pub form : inputs.form ≡ a.inputs.form
   pub fresh : AreFresh inputs
   pub healthy : AreHealthy outlets
   pub log : is_some outlets.log ≡ is_some a.log
-  pub empty : IsTrue files.tells → AreEmpty outlets
-  pub theirs : IsTrue files.tells → WriteTheirs a files outlets
-  pub there : IsTrue files.tells → AreThere a.inputs files.bytes
-  pub held : IsTrue files.tells → AreHeld a files.bytes
+  pub empty : AreMadeTold a files.tells → AreEmpty outlets
+  pub theirs : WriteTheirs a files outlets
+  pub held : AreMadeTold a files.tells → AreHeld a files.bytes
   pub report_made : IsReportMade a files report
 
 -- no file of an input is that of an output or of the report
@@ -80,9 +81,9 @@ AreNoInputs a = (side : Side) → IsNoOutput a (input_name a.inputs side)
 pub record AreOpened (a : Asking) (old new : FilesState)
     (inputs : Opened) (outlets : OutletStates) (report : Option OutletState) : Type 0 where
   pub ready : AreReady a new inputs outlets report
-  pub fed : IsTrue old.tells → AreFed inputs a.inputs old.bytes
-  pub apart : IsTrue old.tells → AreNoInputs a
-  pub rest : IsTrue old.tells → KeepsUnnamed a old.bytes new.bytes
+  pub fed : AreFed inputs a.inputs old
+  pub apart : AreInputsTold a.inputs old.tells → AreNoInputs a
+  pub rest : AreMadeTold a old.tells → KeepsUnnamed a old.bytes new.bytes
 
 -- A file may be refused for this cause once these inputs are opened: it is that of one, and that is
 -- the cause; or it might have been before.
@@ -97,37 +98,34 @@ MayRefuseName names inputs old name cause =
     ((is_input names name ≡ false) × (cause ≡ Input) × IsTrue (is_input inputs (old.leads name)))
     ⊎ MayRefuse old (old.leads name) cause
 
--- this is the name of an output or of the report
-abbrev pub IsMade : Asking → List ℕ → Type 0
-IsMade a name = ((out : Out) × (output_name a out ≡ Some name)) ⊎ (a.report ≡ Some name)
-
--- if an output or the report leads to an input, this holds, and no file has changed
+-- if an output or the report leads to an input whose bytes are known, this holds, and no file has
+-- changed
 abbrev pub SparesInputs : Asking → Type 0 → FilesState → FilesState → Type 0
-SparesInputs a P old new = IsTrue old.tells → (name : List ℕ) → IsMade a name →
+SparesInputs a P old new = (name : List ℕ) → IsMade a name → IsTrue (old.tells name) →
     IsTrue (new.is_open name) → P × IsUnchanged old.bytes new.bytes
 
--- no output leads to an input
+-- no output leads to an input whose bytes are known
 abbrev pub AreApart : Asking → FilesState → Type 0
 AreApart a files = (out : Out) (name : List ℕ) → output_name a out ≡ Some name →
-    files.is_open name ≡ false
+    IsTrue (files.tells name) → files.is_open name ≡ false
 
 -- A call was refused for this reason: what the reason says, and what the call leaves in the files.
 -- Given is what was asked for, by names and by files.
 pub record IsRefused (a f : Asking) (why : Refusal) (old new : FilesState) : Type 0 where
   pub refused : IsRefusable a (MayRefuseName a.inputs f.inputs old) why
-  pub inputs : IsTrue old.tells → TellsInputs f.inputs why old
-  pub left : IsTrue old.tells → RefusalLeaves f why old.bytes new.bytes
-  pub report_left : IsTrue old.tells → (file : List ℕ) → f.report ≡ Some file →
+  pub inputs : AreInputsTold f.inputs old.tells → TellsInputs f.inputs why old
+  pub left : AreMadeTold f old.tells → RefusalLeaves f why old.bytes new.bytes
+  pub report_left : AreMadeTold f old.tells → (file : List ℕ) → f.report ≡ Some file →
       IsNoOutput f file → ReportLeft why (old.bytes file) (new.bytes file)
 
 -- A file or memory was refused after the request was checked.
 pub record IsUnopened (a : Asking) (why : Refusal) (old new : FilesState) : Type 0 where
   pub late : status_of why ≢ 2
   pub refused : IsRefusable a (MayLead a.inputs old) why
-  pub inputs : IsTrue old.tells → TellsInputs a.inputs why old
-  pub left : IsTrue old.tells → RefusalLeaves a why old.bytes new.bytes
-  pub report_left : IsTrue old.tells → (name : List ℕ) → a.report ≡ Some name →
+  pub inputs : AreInputsTold a.inputs old.tells → TellsInputs a.inputs why old
+  pub left : AreMadeTold a old.tells → RefusalLeaves a why old.bytes new.bytes
+  pub report_left : AreMadeTold a old.tells → (name : List ℕ) → a.report ≡ Some name →
       IsNoOutput a name → ReportLeft why (old.bytes name) (new.bytes name)
-  pub rest : IsTrue old.tells → KeepsUnnamed a old.bytes new.bytes
-  pub unopened : IsTrue old.tells → (side : Side) →
+  pub rest : AreMadeTold a old.tells → KeepsUnnamed a old.bytes new.bytes
+  pub unopened : (side : Side) → IsTrue (old.tells (input_name a.inputs side)) →
       old.bytes (input_name a.inputs side) ≡ None → IsUnchanged old.bytes new.bytes

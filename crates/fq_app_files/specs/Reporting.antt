@@ -19,7 +19,7 @@ use Rattle.fq_report.specs.Reports.{text_of}
 use Rattle.fq_app_words.specs.Requests.{Asking}
 use Rattle.fq_app_files.specs.Faults.{settled, outcome_status, input_words}
 use Rattle.fq_app_files.specs.Judging.{settings_of}
-use Rattle.fq_app_files.specs.Trimming.{pairs_of}
+use Rattle.fq_app_files.specs.Trimming.{pairs_of, AreMadeTold}
 use Rattle.fq_app_files.specs.declared.account.Account.{Account}
 use Rattle.fq_app_files.specs.declared.reporting.Reported.{Reported}
 use Rattle.fq_app_files.specs.declared.reporting.Reported.TheVariants.{NotDue, Written, Failed}
@@ -103,12 +103,12 @@ pub record IsReportOpen (a : Asking)
     (files : FilesState) (report : Option OutletState) : Type 0 where
   pub there : is_some report ≡ is_some a.report
   pub fresh : IfSome report (λ outlet. outlet.failures ≡ 0)
-  pub held : IsTrue files.tells → (name : List ℕ) →
-      a.report ≡ Some name → IsSome (files.bytes name)
+  pub held : (name : List ℕ) → a.report ≡ Some name → IsTrue (files.tells name) →
+      IsSome (files.bytes name)
 
 -- each name that is not the report's holds what it held before
 abbrev pub KeepsOutputs : Asking → FilesState → FilesState → Type 0
-KeepsOutputs a old new = IsTrue old.tells → (name : List ℕ) →
+KeepsOutputs a old new = AreMadeTold a old.tells → (name : List ℕ) →
     a.report ≢ Some name → new.bytes name ≡ old.bytes name
 
 -- the text of the report of a run that has a tally

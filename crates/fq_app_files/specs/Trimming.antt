@@ -1,8 +1,8 @@
 -- Trimming pairs from input files into output files.
-use Rattle.std.specs.Prelude.{◌≡◌, ◌≢◌, ℕ, Bool, IsTrue, IsSome, Option, Some, None, Ok, List, []}
+use Rattle.std.specs.Prelude.{◌≡◌, ◌≢◌, ◌⊎◌, ℕ, Bool, IsTrue, IsSome, Option, Some, None, Ok, List, []}
 use Rattle.std.specs.Option.{option_map}
 use Rattle.fq_files.specs.Holding.{Holding}
-use Rattle.fq_files.specs.States.{FilesState}
+use Rattle.fq_files.specs.States.{FilesState, Keys}
 use Rattle.fq_pair.specs.declared.out.Out.{Out}
 use Rattle.fq_pair.specs.declared.side.Side.{Side}
 use Rattle.fq_pair.specs.declared.side.Side.TheVariants.{Forward, Reverse}
@@ -24,6 +24,23 @@ use Rattle.fq_app_files.specs.declared.feeds.Feeds.TheVariants.{Apart, Interleav
 -- the request, with the key of the file that each name leads to in place of the name
 abbrev pub filed : FilesState → Asking → Asking
 filed files a = by_file files.leads a
+
+-- this is the name of an output or of the report
+abbrev pub IsMade : Asking → List ℕ → Type 0
+IsMade a name = ((out : Out) × (output_name a out ≡ Some name)) ⊎ (a.report ≡ Some name)
+
+-- the bytes of both inputs are known to the proof
+abbrev pub AreInputsTold : InputNames → Keys → Type 0
+AreInputsTold inputs tells = IsTrue (tells inputs.forward) × IsTrue (tells inputs.reverse)
+
+-- the bytes of each output and of the report are known to the proof
+abbrev pub AreMadeTold : Asking → Keys → Type 0
+AreMadeTold a tells = (file : List ℕ) → IsMade a file → IsTrue (tells file)
+
+-- the bytes of each file that was asked for are known to the proof
+pub record AreFilesTold (a : Asking) (tells : Keys) : Type 0 where
+  pub inputs : AreInputsTold a.inputs tells
+  pub made : AreMadeTold a tells
 
 -- this is the name of this output, and of no other file that is made: neither of another output nor
 -- of the report
@@ -59,16 +76,17 @@ abbrev pub AreEmpty : OutletStates → Type 0
 AreEmpty outlets = (out : Out) (outlet : OutletState) →
     outlet_at out outlets ≡ Some outlet → IsEmptyOutlet outlet
 
--- what each outlet takes is in the file of its output once the outlet is handed back
+-- what each outlet takes is in the file of its output once the outlet is handed back, if the bytes
+-- of the file are known
 abbrev pub WriteTheirs : Asking → FilesState → OutletStates → Type 0
 WriteTheirs a files outlets = (out : Out) (file : List ℕ) (outlet : OutletState) →
     output_name a out ≡ Some file → outlet_at out outlets ≡ Some outlet →
-    IsTrue (files.writes outlet.file file)
+    IsTrue (files.tells file) → IsTrue (files.writes outlet.file file)
 
 -- so it is with the outlet of the report
 abbrev pub WritesReport : Asking → FilesState → Option OutletState → Type 0
 WritesReport a files report = (file : List ℕ) (outlet : OutletState) → a.report ≡ Some file →
-    report ≡ Some outlet → IsTrue (files.writes outlet.file file)
+    report ≡ Some outlet → IsTrue (files.tells file) → IsTrue (files.writes outlet.file file)
 
 -- the bytes of an input are known, and are those of its file
 pub record IsFed (tells : Bool) (to_come : List ℕ) (bytes : Option (List ℕ)) : Type 0 where
@@ -117,11 +135,12 @@ pub record AreFresh (inputs : Opened) : Type 0 where
   pub forward : inputs.forward.failures ≡ 0
   pub reverse : inputs.reverse.failures ≡ 0
 
--- the bytes of each input are known, and are those of its file
-pub record AreFed (inputs : Opened) (names : InputNames) (files : Holding) : Type 0 where
-  pub form : inputs.form ≡ names.form
-  pub forward : IsFed inputs.forward.tells inputs.forward.to_come (files names.forward)
-  pub reverse : IsFed inputs.reverse.tells inputs.reverse.to_come (files names.reverse)
+-- the bytes of each input are those of its file, if these are known
+pub record AreFed (inputs : Opened) (names : InputNames) (files : FilesState) : Type 0 where
+  pub forward : IsTrue (files.tells names.forward) →
+      IsFed inputs.forward.tells inputs.forward.to_come (files.bytes names.forward)
+  pub reverse : IsTrue (files.tells names.reverse) →
+      IsFed inputs.reverse.tells inputs.reverse.to_come (files.bytes names.reverse)
 
 -- the pairs of the bytes of the inputs
 abbrev pub pairs_of : Choices → Form → List ℕ → List ℕ → Pairs

@@ -6,7 +6,6 @@ ghost use Rattle.fq_files.specs.States.{MayRefuse, MaySay, OnlyFails, OnlyOpens,
 ghost use Rattle.fq_files.specs.declared.files.Cause.TheVariants.{Input};
 ghost use Rattle.fq_app_words.specs.Requests.{asking_of, input_name};
 ghost use Rattle.fq_app_files.specs.Trimming.{filed, opened_of, left_of, form_of};
-ghost use Rattle.fq_app_files.specs.Leaving.{AreThere};
 ghost use Rattle.fq_app_files.specs.Opening.{AreInputsOpened, AreInputsRefused, IsInputOpened, IsInputRefused, MayLead};
 ghost use Rattle.fq_app_files.specs.Completing.{IsFeedCounted, AreFeedsCounted};
 ghost use Rattle.fq_app_files.specs.Seeing.{LookAsTheyAre, InputsMaySay, InputsTellWhy};
@@ -100,9 +99,6 @@ pub fn inputs_done<T: Files>(
     files: &mut T,
     feeds: Feeds<Option<T::In>>,
 ) -> InputsSeen
-    requires there { IsTrue (T.state files.old).tells
-        → AreThere (filed (T.state files.old) (asking_of request.now)).inputs
-        (T.state files.old).bytes }
     requires form { form_of feeds ≡ (asking_of request.now).inputs.form }
     ensures kept { OnlyFails (T.state files.old) (T.state files.new) }
     ensures counted { AreFeedsCounted (filed (T.state files.old) (asking_of request.now)).inputs
@@ -137,9 +133,6 @@ fn input_done<T: Files>(
     side: Side,
     feed: Option<T::In>,
 ) -> Seen
-    requires { IsTrue (T.state files.old).tells
-        → AreThere (filed (T.state files.old) (asking_of request.now)).inputs
-        (T.state files.old).bytes }
     ensures kept { OnlyFails (T.state files.old) (T.state files.new) }
     ensures counted { IsFeedCounted
         (input_name (filed (T.state files.old) (asking_of request.now)).inputs side)

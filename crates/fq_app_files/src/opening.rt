@@ -61,7 +61,7 @@ pub fn open<T: Files>(
 
 // Returns the first output that leads to an input.
 fn input_among_outputs<T: Files>(request: &Request<'_>, files: &T) -> Option<Out>
-    ensures none { result ≡ None → IsTrue (T.state files.now).tells
+    ensures none { result ≡ None
         → AreApart (filed (T.state files.now) (asking_of request.now)) (T.state files.now) }
     ensures refused { IfSome result (λ out. IsRefusable
         (filed (T.state files.now) (asking_of request.now))
@@ -88,9 +88,9 @@ fn input_among_outputs<T: Files>(request: &Request<'_>, files: &T) -> Option<Out
 
 // Whether the report leads to an input.
 fn input_as_report<T: Files>(request: &Request<'_>, files: &T) -> bool
-    ensures none { result ≡ false → IsTrue (T.state files.now).tells → (name : List ℕ)
+    ensures none { result ≡ false → (name : List ℕ)
         → (filed (T.state files.now) (asking_of request.now)).report ≡ Some name
-        → (T.state files.now).is_open name ≡ false }
+        → IsTrue ((T.state files.now).tells name) → (T.state files.now).is_open name ≡ false }
     ensures refused { IsTrue result
         → IsRefusable (filed (T.state files.now) (asking_of request.now))
         (λ name cause. IsTrue ((T.state files.now).is_open name)) (Refusal.Report Cause.Input) }

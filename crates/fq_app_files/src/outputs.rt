@@ -1,10 +1,10 @@
 //! Makes the files of the outputs, and hands their outlets back after the run.
 
-ghost use Rattle.std.specs.Prelude.{IsTrue, IsSome, IfOk, IfErr};
+ghost use Rattle.std.specs.Prelude.{IsSome, IfOk, IfErr};
 ghost use Rattle.fq_files.specs.States.{MaySay, OnlyStores, OnlyWrites, StillHeld, TellsWhy};
 ghost use Rattle.fq_run_core.specs.Devices.{outlet_states};
 ghost use Rattle.fq_app_words.specs.Requests.{asking_of, output_name};
-ghost use Rattle.fq_app_files.specs.Trimming.{filed, AreHeld};
+ghost use Rattle.fq_app_files.specs.Trimming.{filed, AreHeld, AreMadeTold};
 ghost use Rattle.fq_app_files.specs.Seeing.{OutputsMaySay, OutputsTellWhy};
 ghost use Rattle.fq_app_files.specs.Making.{AreOutputsMade, AreOutputsRefused, AreOutputsStored, IsOutputMade, IsOutputRefused, IsOutputStored};
 
@@ -73,7 +73,8 @@ pub fn store<T: Files>(
     files: &mut T,
     outlets: Outlets<T::Target>,
 ) -> Outlets<Option<SystemError>>
-    requires { IsTrue (T.state files.old).tells
+    requires { AreMadeTold (filed (T.state files.old) (asking_of request.now))
+        (T.state files.old).tells
         → AreHeld (filed (T.state files.old) (asking_of request.now)) (T.state files.old).bytes }
     ensures stored { AreOutputsStored (filed (T.state files.old) (asking_of request.now))
         (outlet_states T.Target.state outlets) (T.state files.old) (T.state files.new) }
@@ -116,9 +117,11 @@ fn store_one<T: Files>(
     outlet: T::Target,
 ) -> Option<SystemError>
     requires wanted { IsSome (output_name (filed (T.state files.old) (asking_of request.now)) out) }
-    requires held { IsTrue (T.state files.old).tells
+    requires held { AreMadeTold (filed (T.state files.old) (asking_of request.now))
+        (T.state files.old).tells
         → AreHeld (filed (T.state files.old) (asking_of request.now)) (T.state files.old).bytes }
-    ensures held { IsTrue (T.state files.new).tells
+    ensures held { AreMadeTold (filed (T.state files.new) (asking_of request.now))
+        (T.state files.new).tells
         → AreHeld (filed (T.state files.new) (asking_of request.now)) (T.state files.new).bytes }
     ensures stored { IsOutputStored (filed (T.state files.old) (asking_of request.now)) out
         (T.Target.state outlet) (T.state files.old) (T.state files.new) }

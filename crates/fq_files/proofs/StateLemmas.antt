@@ -1,16 +1,18 @@
 -- What calls leave of the files as contracts see them. Each lemma takes the equation by which a
 -- call says what it leaves, such as `OnlyWrites`.
-use Rattle.std.proofs.Common.{◌≡◌, ◌∙◌, IsTrue, sym, ap, subst}
+use Rattle.std.proofs.Common.{◌≡◌, ◌∙◌, sym, ap, subst}
 use Rattle.fq_files.specs.Holding.{IsUnchanged}
-use Rattle.fq_files.specs.States.{FilesState, OnlyFails, OnlyStores, OnlyWrites}
+use Rattle.fq_files.specs.States.{FilesState, Keys, OnlyFails, OnlyStores, OnlyWrites}
 
--- files whose bytes are known to the proof are still such files
-pub told_as : (old new : FilesState) → new ≡ old → IsTrue old.tells → IsTrue new.tells
-told_as old new same told = subst (λ (files : FilesState). IsTrue files.tells) (sym same) told
+-- a call leaves which bytes are known to the proof: what holds of them holds still
+pub told_as : (told : Keys → Type 0) (old new : FilesState) → new ≡ old → told old.tells →
+    told new.tells
+told_as told old new same known = subst (λ (files : FilesState). told files.tells) (sym same) known
 
--- and they were before
-pub told_before : (old new : FilesState) → new ≡ old → IsTrue new.tells → IsTrue old.tells
-told_before old new same told = subst (λ (files : FilesState). IsTrue files.tells) same told
+-- and it held before
+pub told_before : (told : Keys → Type 0) (old new : FilesState) → new ≡ old → told new.tells →
+    told old.tells
+told_before told old new same known = subst (λ (files : FilesState). told files.tells) same known
 
 -- a call that leaves the bytes changes no file
 pub same_as : (old new : FilesState) → new ≡ old → IsUnchanged old.bytes new.bytes

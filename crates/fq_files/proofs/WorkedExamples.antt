@@ -1,8 +1,8 @@
 -- Device numbers, as the C library's `makedev` makes them, and files by key.
-use Rattle.std.proofs.Common.{◌≡◌, refl, ℕ, suc, zero, true, Some, None, [], ◌∷◌}
+use Rattle.std.proofs.Common.{◌≡◌, refl, ℕ, suc, zero, nat_eq, true, false, Some, None, [], ◌∷◌}
 use Rattle.fq_files.specs.ByKey.{bytes_in, told}
 use Rattle.fq_files.specs.Devices.{device_of}
-use Rattle.fq_files.specs.Disks.{Inode, absent_inode, new_inode}
+use Rattle.fq_files.specs.Disks.{DiskState, Inode, absent_inode, new_inode}
 use Rattle.fq_files.specs.MemoryDisks.{disk_state_of}
 use Rattle.fq_files.specs.declared.memory_disk.MemoryDisk.{MemoryDisk}
 
@@ -46,6 +46,20 @@ of_another = refl
 of_no_file : bytes_in lone [] ≡ None
 of_no_file = refl
 
--- The bytes of files over a disk in memory are known to the proof.
-in_memory_told : (disk : MemoryDisk) → told (disk_state_of disk) ≡ true
-in_memory_told disk = refl
+-- The bytes of each file over a disk in memory are known to the proof, and that a name leads to
+-- none.
+in_memory_told : (disk : MemoryDisk) (i : ℕ) → told (disk_state_of disk) (i ∷ []) ≡ true
+in_memory_told disk i = refl
+
+no_file_told : (disk : MemoryDisk) → told (disk_state_of disk) [] ≡ true
+no_file_told disk = refl
+
+-- If inode 1 of such a disk were a pipe, those of inode 0 would be known all the same.
+abbrev with_pipe : MemoryDisk → DiskState
+with_pipe disk = record (disk_state_of disk) { is_plain = λ i. nat_eq i 0 }
+
+beside_a_pipe : (disk : MemoryDisk) → told (with_pipe disk) (0 ∷ []) ≡ true
+beside_a_pipe disk = refl
+
+of_the_pipe : (disk : MemoryDisk) → told (with_pipe disk) (1 ∷ []) ≡ false
+of_the_pipe disk = refl

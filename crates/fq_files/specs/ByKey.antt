@@ -31,22 +31,24 @@ is_input Input = true
 is_input Output = false
 is_input (System error) = false
 
--- the bytes of files are known to the proof if each is regular: a pipe holds none
-abbrev pub told : DiskState → Bool
-told disk = disk.tells && disk.only_regular
+-- the bytes of a regular file are known to the proof, and so is that a name leads to no file: a
+-- directory or a pipe holds none
+abbrev pub told : DiskState → List ℕ → Bool
+told disk file = disk.tells && by_key true disk.is_plain file
 
--- Files of a disk with these inputs. If the bytes of files are known, only an input is refused
--- because it is one. A failure counts for every file, and so does a target that was not flushed.
+-- Files of a disk with these inputs. If the disk tells, only an input is refused because it is one,
+-- whatever kind of file that is. A failure counts for every file, and so does a target that was not
+-- flushed.
 abbrev pub files_state_of : DiskState → List ℕ → Bool → Bool → FilesState
 files_state_of disk inputs has_failed has_unflushed = record {
   leads = λ name. key_of (disk.inode_of name);
   tells = told disk;
   looks = false;
   bytes = bytes_in disk.at;
-  refuses = λ file cause. not (told disk) || not (is_input cause);
+  refuses = λ file cause. not disk.tells || not (is_input cause);
   may_say = λ file error. true;
   writes = λ number file. bytes_eq (key_of number) file;
-  is_open = λ file. not (told disk) || by_key false (is_in inputs) file;
+  is_open = λ file. not disk.tells || by_key false (is_in inputs) file;
   has_failed = λ file. has_failed;
   is_unflushed = λ file. has_unflushed;
 }

@@ -15,8 +15,8 @@ pub record Inode : Type 0 where
 pub record DiskState : Type 0 where
   -- Whether names and bytes are known to the proof. This never changes.
   pub tells : Bool
-  -- Whether each inode that is there is a regular file. This never changes.
-  pub only_regular : Bool
+  -- Whether this inode is a regular file once it is there. This never changes.
+  pub is_plain : ℕ → Bool
   -- The inode that each name leads to, links followed, once it is there; without one there never
   -- is a file of this name. This never changes.
   pub inode_of : List ℕ → Option ℕ

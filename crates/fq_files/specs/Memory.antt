@@ -20,7 +20,7 @@ is_memory_error error = (error.number == 2) || ((error.number == 5) || (error.nu
 abbrev pub state_of : MemoryFiles → FilesState
 state_of files = record {
   leads = λ name. name;
-  tells = true;
+  tells = λ name. true;
   looks = true;
   bytes = bytes_in files;
   refuses = λ name cause. false;

@@ -22,7 +22,7 @@ inode_at nodes i = record {
 abbrev pub disk_state_of : MemoryDisk → DiskState
 disk_state_of disk = record {
   tells = true;
-  only_regular = true;
+  is_plain = λ i. true;
   inode_of = get_by_text disk.names;
   at = inode_at disk.nodes.items;
   refuses = λ name error. is_memory_error error;

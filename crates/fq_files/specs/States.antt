@@ -1,6 +1,6 @@
 -- Files as contracts see them, and what a call leaves as it was.
 use Rattle.std.specs.Prelude.{◌≡◌, ◌<◌, ◌⊎◌, ℕ, Bool, false, IsTrue, IsSome, Option, Some, None, List}
-use Rattle.fq_files.specs.Holding.{Holding, KeepsFiles}
+use Rattle.fq_files.specs.Holding.{Holding}
 use Rattle.fq_text.specs.declared.seen.SystemError.{SystemError}
 use Rattle.fq_files.specs.declared.files.Cause.{Cause}
 use Rattle.fq_files.specs.declared.files.Cause.TheVariants.{System, Input, Output}
@@ -22,8 +22,8 @@ pub record FilesState : Type 0 where
   -- The key of the file that each name leads to, links followed; if there is none, of the one that
   -- it would lead to. Two names that lead to one file have one key. This never changes.
   pub leads : List ℕ → List ℕ
-  -- Whether the bytes of files are known to the proof. This never changes.
-  pub tells : Bool
+  -- Whether the bytes of this file are known to the proof. This never changes.
+  pub tells : Keys
   -- Whether it is known to the proof what files look like. This never changes.
   pub looks : Bool
   -- The bytes of each file that is there.
@@ -55,14 +55,14 @@ MayRefuse files file cause = IsTrue (files.refuses file cause)
 
 -- This file may be refused as an input for this cause: it is not there, or it may be refused
 -- although it is, and the system may say so by this error; or it is an input already, of which this
--- holds. If the bytes of the files are known, it is no output yet.
+-- holds. If the bytes of the file are known, it is no output yet.
 pub record MayRefuseInput (files : FilesState) (IsInput : Type 0)
     (file : List ℕ) (cause : Cause) : Type 0 where
   pub missing : (error : SystemError) → cause ≡ System error →
       IsTrue (files.may_say file error)
-      × (IsTrue files.tells → (files.bytes file ≡ None) ⊎ IsTrue (files.refuses file cause))
+      × (IsTrue (files.tells file) → (files.bytes file ≡ None) ⊎ IsTrue (files.refuses file cause))
   pub twice : cause ≡ Input → IsInput
-  pub no_output : cause ≡ Output → files.tells ≡ false
+  pub no_output : cause ≡ Output → files.tells file ≡ false
 
 -- what is told, if anything is, is an error that a device of this file may say; without a file
 -- nothing is told
@@ -98,9 +98,10 @@ OnlyStores old new = new ≡ record old {
 abbrev pub IsSound : FilesState → FilesState → Type 0
 IsSound old new = new ≡ record old { bytes = new.bytes; is_open = new.is_open }
 
--- no file is removed, if the bytes are known to the proof
+-- no file whose bytes are known to the proof is removed
 abbrev pub StillHeld : FilesState → FilesState → Type 0
-StillHeld old new = IsTrue old.tells → KeepsFiles old.bytes new.bytes
+StillHeld old new = (file : List ℕ) → IsTrue (old.tells file) → IsSome (old.bytes file) →
+    IsSome (new.bytes file)
 
 -- a file whose device had failed before still counts as failed
 abbrev pub KeepsFailed : FilesState → FilesState → Type 0

@@ -171,7 +171,7 @@ pub trait Disk {
             → IsTrue ((state self.old).fails i error) }
         ensures flushed { result.is_flushed ≡ (Self.Writer.state writer).is_flushed };
 
-    /// Each inode that is there is a regular file, if the disk says so.
-    ghost regular: { (disk : Self) → IsTrue (state disk).only_regular → (i : ℕ)
+    /// An inode that the disk calls plain is a regular file, if it is there.
+    ghost regular: { (disk : Self) (i : ℕ) → IsTrue ((state disk).is_plain i)
         → IsTrue ((state disk).at i).is_there → IsRegular (state disk) i };
 }

@@ -19,9 +19,10 @@ fn refused(error: SystemError) -> FileFault
     FileFault::Refused(Cause::System(error))
 }
 
-/// The files of a disk, such as [`SystemDisk`](crate::SystemDisk). As [`Files`], their bytes are
-/// known to the proof if the disk tells and has regular files only, links or not: the key of a file
-/// is its inode. What each call does is also said by inode, of every disk that tells (`Tells`).
+/// The files of a disk, such as [`SystemDisk`](crate::SystemDisk). As [`Files`], the bytes of a
+/// regular file are known to the proof if the disk tells, under each name that leads to it: the key
+/// of a file is its inode. Those of directories, pipes and devices are not. What each call does is
+/// also said by inode, of every disk that tells (`Tells`).
 ///
 /// A file that was opened as an input is refused as an output, under any name, and is left
 /// unchanged. A regular file that is already an input is refused as another input, and one that is

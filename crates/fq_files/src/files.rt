@@ -44,10 +44,11 @@ impl From<OutOfMemory> for FileFault {
 
 /// Files by name: feeds of files that exist, and outlets of files that are created.
 ///
-/// Whether the bytes of files are known to the proof never changes. Those of files in memory are
-/// ([`MemoryFiles`](crate::MemoryFiles)), those of files on a disk only if the disk tells them
-/// ([`DiskFiles`](crate::DiskFiles)). The contracts speak of bytes, and of names that are held,
-/// only if the bytes are known. No call changes another name's bytes, or removes a name.
+/// Whether the bytes of a file are known to the proof is said by file, and never changes. In memory
+/// all are ([`MemoryFiles`](crate::MemoryFiles)), and on a disk that tells them those of regular
+/// files ([`DiskFiles`](crate::DiskFiles)). The contracts speak of the bytes of a file, and of
+/// whether it is held, only if its bytes are known. No call for such a file changes another file's
+/// bytes, and no such file is removed.
 ///
 /// The contracts also say which names may be refused, which lead to an input, for which names a
 /// device has failed, which errors it may then say, and for which a target was not flushed. A
@@ -64,12 +65,15 @@ pub trait Files {
     ghost state: { Self → FilesState };
 
     /// Opens a feed of the file's bytes, which has not failed. No file changes. If the bytes are
-    /// known to the proof, only a name that is not held or that leads to an input is refused.
+    /// known to the proof, a name is refused only if it is not held, if its file is an input
+    /// already, or for a cause for which that may be refused although it is there.
     fn source(&mut self, name: &str) -> Result<Self::In, FileFault>
         ensures fresh { IfOk result (λ feed. (Self.In.state feed).failures ≡ 0) }
-        ensures telling { IfOk result (λ feed. IsTrue (state self.old).tells
+        ensures telling { IfOk result (λ feed.
+            IsTrue ((state self.old).tells ((state self.old).leads name.now))
             → IsTrue (Self.In.state feed).tells) }
-        ensures given { IfOk result (λ feed. IsTrue (state self.old).tells
+        ensures given { IfOk result (λ feed.
+            IsTrue ((state self.old).tells ((state self.old).leads name.now))
             → (state self.old).bytes ((state self.old).leads name.now)
             ≡ Some (Self.In.state feed).to_come) }
         ensures refused { (cause : Cause) → result ≡ Err (FileFault.Refused cause)
@@ -87,11 +91,8 @@ pub trait Files {
             → MayRefuse (state self.old) other Cause.Input };
 
     /// Hands a feed back: if it failed, a device of this name has failed. Returns why if it failed,
-    /// and what the file looks like, as far as that is known. No file changes. The name must be
-    /// held, as it is once [`source`](Files::source) has returned `Ok` for it.
+    /// and what the file looks like, as far as that is known. No file changes.
     fn source_done(&mut self, name: &str, feed: Self::In) -> Seen
-        requires { IsTrue (state self.old).tells
-            → IsSome ((state self.old).bytes ((state self.old).leads name.now)) }
         ensures kept { OnlyFails (state self.old) (state self.new) }
         ensures why { TellsWhy (Self.In.state feed).failures result.error }
         ensures says { MaySay (state self.old).may_say
@@ -111,7 +112,7 @@ pub trait Files {
     fn leads_to_input(&self, name: &str) -> bool
         ensures no_other { IsTrue result
             → IsTrue ((state self.now).is_open ((state self.now).leads name.now)) }
-        ensures found { IsTrue (state self.now).tells
+        ensures found { IsTrue ((state self.now).tells ((state self.now).leads name.now))
             → IsTrue ((state self.now).is_open ((state self.now).leads name.now))
             → IsTrue result };
 
@@ -126,42 +127,48 @@ pub trait Files {
 
     /// Opens an outlet to the file, which is created, or emptied if it exists. The outlet has taken
     /// nothing, and has not failed. If the file is refused, it holds what it held before, or
-    /// nothing. Only a name that may be refused for that cause, or leads to an input, is refused.
+    /// nothing. A name is refused only because its file is an input, or for a cause for which that
+    /// may be refused, whether it is there or not.
     fn target(&mut self, name: &str) -> Result<Self::Target, FileFault>
         ensures fresh { IfOk result (λ target. (Self.Target.state target).failures ≡ 0) }
-        ensures telling { IfOk result (λ target. IsTrue (state self.old).tells
+        ensures telling { IfOk result (λ target.
+            IsTrue ((state self.old).tells ((state self.old).leads name.now))
             → IsSome (Self.Target.state target).file) }
-        ensures nothing { IfOk result (λ target. IsTrue (state self.old).tells
+        ensures nothing { IfOk result (λ target.
+            IsTrue ((state self.old).tells ((state self.old).leads name.now))
             → (Self.Target.state target).taken ≡ []) }
-        ensures emptied { OnOk result (IsTrue (state self.old).tells
+        ensures emptied { OnOk result
+            (IsTrue ((state self.old).tells ((state self.old).leads name.now))
             → (state self.new).bytes ((state self.old).leads name.now) ≡ Some []) }
-        ensures written { IfOk result (λ target. IsTrue (state self.old).tells
+        ensures written { IfOk result (λ target.
+            IsTrue ((state self.old).tells ((state self.old).leads name.now))
             → IsTrue ((state self.old).writes
             (Self.Target.state target).file ((state self.old).leads name.now))) }
-        ensures refused { OnErr result (IsTrue (state self.old).tells
+        ensures refused { OnErr result
+            (IsTrue ((state self.old).tells ((state self.old).leads name.now))
             → ((state self.new).bytes ((state self.old).leads name.now)
             ≡ (state self.old).bytes ((state self.old).leads name.now))
             ⊎ ((state self.new).bytes ((state self.old).leads name.now) ≡ Some [])) }
         ensures held { StillHeld (state self.old) (state self.new) }
-        ensures others { IsTrue (state self.old).tells → KeepsOthers (state self.old).bytes
+        ensures others { IsTrue ((state self.old).tells ((state self.old).leads name.now))
+            → KeepsOthers (state self.old).bytes
             (state self.new).bytes ((state self.old).leads name.now) }
         ensures kept { OnlyWrites (state self.old) (state self.new) }
         ensures rightly { (cause : Cause) → result ≡ Err (FileFault.Refused cause)
             → MayRefuse (state self.old) ((state self.old).leads name.now) cause };
 
-    /// Hands an outlet back: the file holds what the outlet has taken, and if the outlet failed, a
-    /// device of this name has failed. Returns why if it failed. The name must be held, as it is
-    /// once [`target`](Files::target) has returned `Ok` for it.
+    /// Hands an outlet back: the file, if the name is held, as it is once
+    /// [`target`](Files::target) has returned `Ok` for it, holds what the outlet has taken, and if
+    /// the outlet failed, a device of this name has failed. Returns why if it failed.
     fn done(&mut self, name: &str, target: Self::Target) -> Option<SystemError>
-        requires { IsTrue (state self.old).tells
-            → IsSome ((state self.old).bytes ((state self.old).leads name.now)) }
-        ensures stored { IsTrue (state self.old).tells
+        ensures stored { IsTrue ((state self.old).tells ((state self.old).leads name.now))
             → IsTrue ((state self.old).writes
             (Self.Target.state target).file ((state self.old).leads name.now))
+            → IsSome ((state self.old).bytes ((state self.old).leads name.now))
             → (state self.new).bytes ((state self.old).leads name.now)
             ≡ Some (Self.Target.state target).taken }
         ensures held { StillHeld (state self.old) (state self.new) }
-        ensures others { IsTrue (state self.old).tells
+        ensures others { IsTrue ((state self.old).tells ((state self.old).leads name.now))
             → IsTrue ((state self.old).writes
             (Self.Target.state target).file ((state self.old).leads name.now))
             → KeepsOthers (state self.old).bytes

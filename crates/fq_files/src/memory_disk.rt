@@ -124,7 +124,7 @@ impl Disk for MemoryDisk {
 
     ghost state = { disk_state_of };
 
-    ghost regular = { λ disk only i there. refl };
+    ghost regular = { λ disk i plain there. refl };
 
     fn open_read(&self, name: &str) -> Result<MemoryFile, SystemError> {
         let node = self.node_of(name).ok_or(MISSING)?;

@@ -60,14 +60,14 @@ impl<'a, R: rt::Files<File = File>> Disk for SystemDisk<'a, R> {
 
     ghost state = { λ _. record {
       tells = false;
-      only_regular = false;
+      is_plain = λ _. false;
       inode_of = λ _. None;
       at = λ _. absent_inode;
       refuses = λ _ _. true;
       fails = λ _ _. true;
     } };
 
-    ghost regular = { λ _ never. Prim.grind arith };
+    ghost regular = { λ _ _ never. Prim.grind arith };
 
     fn open_read(&self, name: &str) -> Result<SystemFile, SystemError> {
         let file = File::open(self.runtime, name).map_err(SystemError::of)?;

@@ -75,7 +75,7 @@ impl Files for TroubledFiles<'_> {
 
     ghost state = { λ _. record {
       leads = λ name. name;
-      tells = false;
+      tells = λ _. false;
       looks = false;
       bytes = λ _. None;
       refuses = λ _ _. true;

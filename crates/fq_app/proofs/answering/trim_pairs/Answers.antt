@@ -1,6 +1,7 @@
-use Rattle.std.proofs.Common.{◌≡◌, ◌≢◌, ◌⊎◌, IsTrue, refl, inl, ap, subst, sym, arith}
+use Rattle.std.proofs.Common.{◌≡◌, ◌≢◌, ◌⊎◌, refl, inl, inr, ap, subst, sym, arith}
 use Rattle.fq_files.specs.States.{FilesState}
 use Rattle.fq_app_files.specs.Faults.{outcome_status}
+use Rattle.fq_app_files.specs.Trimming.{filed, AreFilesTold}
 use Rattle.fq_app.specs.Answers.{device_of, TookLine, EndsWhole, PairsAnswered}
 use Rattle.fq_app_words.specs.Requests.{asking_of}
 use Rattle.fq_app_files.specs.Judging.{wrong_with}
@@ -14,24 +15,26 @@ use Rattle.fq_app.proofs.answering.trim_pairs.Goals as goal
 pub returns-in-Ok-clause-request : goal.returns-in-Ok-clause-request
 returns-in-Ok-clause-request g c =
     let a = asking_of c.args.request.now in
+    let old = g.T.Files.state c.args.files.now in
     let account = c.in-Ok.completed.account in
     let reported = c.in-Ok.completed.reported in
-    let run : IsRun a (g.T.Files.state c.args.files.now) (g.T.Files.state c.trim_files.new.files)
-    account.outcome account.counts reported =
+    let run : IsRun a old (g.T.Files.state c.trim_files.new.files) account.outcome account.counts
+    reported =
     record {
       no_gate = c.in-Ok.ensures.no_gate;
       trims = c.in-Ok.ensures.completed.trims;
       ended = c.in-Ok.ensures.completed.ended;
       due = c.in-Ok.ensures.completed.due;
       not_due = c.in-Ok.ensures.completed.not_due;
-      held = c.in-Ok.ensures.completed.report;
+      held = λ told name named. c.in-Ok.ensures.completed.report told.inputs name named
+          (told.made name (inr named));
     } in
     let line : c.tell.result ≢ 0 → TookLine a _ _ _ _ c.tell.result =
     λ some. told_line a _ _ account.outcome account.counts reported run
     c.in-Ok.completed.seen c.in-Ok.ensures.completed.said c.in-Ok.ensures.completed.its_error
     _ c.in-Ok.ensures.report_says _ _ _ (c.tell.ensures.line some) in
     let whole : (c.tell.result ≡ 0) ⊎ (c.tell.result ≡ 3) →
-    IsTrue (g.T.Files.state c.args.files.now).tells → EndsWhole a _ _ _ _ c.tell.result =
+    AreFilesTold (filed old a) old.tells → EndsWhole a _ _ _ _ c.tell.result =
     λ ends told.
     let status = c.tell.ensures.whole ends in
     record {
@@ -59,7 +62,7 @@ returns-in-Ok-clause-request g c =
           is_held a _ _ account.outcome account.counts reported run (c.tell.ensures.reported ends)
           is told name named;
       report_left = λ told name named. is_left a _ _ _ name reported
-          (c.in-Ok.ensures.completed.report told name named);
+          (run.held told name named);
       unopened = c.in-Ok.ensures.unopened;
     } in
     request_answered a _ _ _ _ _ pairs
@@ -70,7 +73,7 @@ returns-in-Ok-clause-request g c =
     c.in-Ok.ensures.completed.report_failed
     (c.tell.ensures.line (λ zero. absurd (omega (arith, four, zero)))) four)
     c.in-Ok.ensures.rest
-    (λ told name made leads. let failed = (c.in-Ok.ensures.spared told name made leads).0 in
+    (λ name made told leads. let failed = (c.in-Ok.ensures.spared name made told leads).0 in
     absurd (cc failed))
 
 -- in a run with status 0 or 3 no device of the files has failed, and all was flushed
@@ -106,9 +109,9 @@ returns-in-Err-clause-request g c =
     (λ four. inl (refused_device a _ _ _ c.in-Err.refusal
     c.refuse.ensures refused.inputs refused.refused four))
     c.in-Err.ensures.rest
-    (λ told name made leads. (
+    (λ name made told leads. (
       refuses_fails a c.in-Err.refusal _ _ c.refuse.ensures,
-      (c.in-Err.ensures.spared told name made leads).1,
+      (c.in-Err.ensures.spared name made told leads).1,
     ))
 
 -- no device of the files has failed in a call that was refused, and no further outlet is unflushed

@@ -16,10 +16,10 @@ use Rattle.std.specs.Option.{option_map}
 use Rattle.fq_app_files.specs.Judging.{settings_of}
 use Rattle.fq_app_files.specs.Making.{AreOutputsStored}
 use Rattle.fq_app_files.specs.Completing.{AreFeedsCounted, IsReportStored}
-use Rattle.fq_app_files.specs.Trimming.{filed, opened_of, left_of, run_in, WriteTheirs, WritesReport}
+use Rattle.fq_app_files.specs.Trimming.{filed, opened_of, left_of, run_in, AreFilesTold, AreInputsTold, AreMadeTold, WriteTheirs, WritesReport}
 use Rattle.fq_app_files.proofs.FiledLemmas.{settings_filed, theirs_after}
-use Rattle.fq_files.specs.States.{FilesState}
-use Rattle.fq_files.proofs.StateLemmas.{same_as, store_fail, then_store, told_as, told_before}
+use Rattle.fq_files.specs.States.{FilesState, Keys}
+use Rattle.fq_files.proofs.StateLemmas.{same_as, store_fail, then_store, told_as}
 use Rattle.fq_run.specs.Outcomes.{is_unmatched}
 use Rattle.fq_run_core.specs.declared.outlets.Outlets.{Outlets}
 use Rattle.fq_app_files.specs.Faults.{settled}
@@ -38,9 +38,11 @@ use Rattle.fq_app.proofs.trimming.complete.Goals as goal
 pub store-errors-requires-after_bounds : goal.store-errors-requires-after_bounds
 store-errors-requires-after_bounds g c κs within = λ told out name named.
     let kept = c.inputs_done-inputs.ensures.kept in
-    let before = told_before _ _ kept told in
+    let asked = asking_of c.args.request.now in
+    let told_in : FilesState → Type 0 = λ s. AreMadeTold (filed s asked) s.tells in
+    let before = subst told_in kept told in
     let own : FilesState → Type 0 =
-    λ s. output_name (filed s (asking_of c.args.request.now)) out ≡ Some name in
+    λ s. output_name (filed s asked) out ≡ Some name in
     let P : Option (List ℕ) → Type 0 = λ bytes. IsSome bytes in
     subst P (sym (same_as _ _ kept name))
     (c.requires.ready.held before out name (subst own kept named))
@@ -123,53 +125,53 @@ returns g c =
           subst reports_at since (subst reports_at done.kept
           (subst reports_at stored.kept reported.stored)) in
           let same = same_as _ _ done.kept in
-          let told_on : IsTrue start.tells → IsTrue kept.tells =
-          λ told. told_as _ _ stored.kept (told_as _ _ done.kept (told_as _ _ since told)) in
-          let are_told : IsTrue start.tells → AreTold run =
+          let told_on : (told : Keys → Type 0) → told start.tells → told kept.tells =
+          λ told known. told_as told _ _ stored.kept
+          (told_as told _ _ done.kept (told_as told _ _ since known)) in
+          let made_on = told_on (AreMadeTold f) in
+          let are_told : AreInputsTold f.inputs start.tells → AreTold run =
           λ told. record {
-            forward = (opened.fed told).forward.told;
-            reverse = (opened.fed told).reverse.told;
+            forward = (opened.fed.forward told.0).told;
+            reverse = (opened.fed.reverse told.1).told;
           } in
-          let theirs : IsTrue start.tells → WriteTheirs f kept after =
-          λ told.
+          let theirs : WriteTheirs f kept after =
           let P : FilesState → Type 0 = λ s. WriteTheirs f s after in
           subst P (sym stored.kept) (subst P (sym done.kept)
-          (theirs_after f started before after c.run-account.ensures.files
-          (opened.ready.theirs (told_as _ _ since told)))) in
-          let its : IsTrue start.tells → WritesReport f kept report =
-          λ told.
+          (theirs_after f started before after c.run-account.ensures.files opened.ready.theirs)) in
+          let its : WritesReport f kept report =
           let P : FilesState → Type 0 = λ s. WritesReport f s report in
-          subst P (sym stored.kept) (subst P (sym done.kept)
-          (opened.ready.report_made.theirs (told_as _ _ since told))) in
-          let held : IsTrue start.tells → IsHeld f choices start.bytes ended.bytes run =
+          subst P (sym stored.kept) (subst P (sym done.kept) opened.ready.report_made.theirs) in
+          let held : AreFilesTold f start.tells → IsHeld f choices start.bytes ended.bytes run =
           λ told. record {
             settings = right;
             form = opened.ready.form;
-            told = are_told told;
-            forward_is = (opened.fed told).forward.bytes_are;
-            reverse_is = (opened.fed told).reverse.bytes_are;
+            told = are_told told.inputs;
+            forward_is = (opened.fed.forward told.inputs.0).bytes_are;
+            reverse_is = (opened.fed.reverse told.inputs.1).bytes_are;
             log = opened.ready.log;
-            empty = opened.ready.empty (told_as _ _ since told);
-            hold = λ out name outlet own at.
-                reports.others (its told) (told_on told) name own.report
-                ∙ all_hold f after _ (outputs.stored (told_on told) (theirs told)).hold
+            empty = opened.ready.empty (told_as (AreMadeTold f) _ _ since told.made);
+            hold = λ out name outlet own at. reports.others its (made_on told.made) name own.report
+                ∙ all_hold f after _ (outputs.stored (made_on told.made) theirs).hold
                 out name outlet own at;
           } in
           record {
             trims = λ told whole. trims_files f choices _ _ run (held told)
-                (c.run-account.ensures.whole whole (are_told told));
+                (c.run-account.ensures.whole whole (are_told told.inputs));
             ended = λ told other. first_pairs f choices _ _ run (held told)
                 (c.run-account.ensures.every other);
-            rest = λ told name free other. reports.others (its told) (told_on told) name other
-                ∙ ((outputs.stored (told_on told) (theirs told)).rest name free
+            rest = λ told name free other. reports.others its (made_on told) name other
+                ∙ ((outputs.stored (made_on told) theirs).rest name free
                 ∙ (same name ∙ opened.rest told name free other));
             due = reports.due;
             not_due = reports.not_due;
-            report = λ told name named.
-                let took = reports.took (told_on told)
-                (opened.ready.report_made.empty (told_as _ _ since told)) (its told) name named in
+            report = λ told name named own.
+                let at_name : Keys → Type 0 = λ tells. IsTrue (tells name) in
+                let took = reports.took
+                (opened.ready.report_made.empty name named (told_as at_name _ _ since own)) its
+                name named (told_on at_name own) in
                 report_of_run a f choices _ _ run account _ _ name took.0 settings opened.ready.form
-                (opened.fed told).forward.bytes_are (opened.fed told).reverse.bytes_are
+                (opened.fed.forward told.0).bytes_are
+                (opened.fed.reverse told.1).bytes_are
                 refl refl refl (λ whole. c.run-account.ensures.whole whole (are_told told))
                 c.encoding.ensures reports.due took.1 took.2;
             failed = λ other. fails_as_told f start choices inputs run left _ _ _
@@ -180,11 +182,12 @@ returns g c =
                 as_it_is choices run (λ whole. c.run-account.ensures.whole whole (are_told told));
             said = λ told.
                 let is = as_it_is choices run (λ whole. c.run-account.ensures.whole whole
-                (are_told told)) in
+                (are_told told.inputs)) in
                 is_said start.looks f start.bytes started.bytes account.outcome left
                 c.inputs_done-inputs.result c.store-errors.result c.run-account.result.unmatched _
                 c.seen_of.ensures c.run-account.ensures.returned
-                (inputs_kept f start.bytes started.bytes (opened.apart told) (opened.rest told))
+                (inputs_kept f start.bytes started.bytes (opened.apart told.inputs)
+                (opened.rest told.made))
                 (let looks_at : FilesState → Type 0 =
                 λ s. IsTrue s.looks → LookAsTheyAre (filed s a).inputs started.bytes left
                 c.inputs_done-inputs.result in
@@ -198,20 +201,19 @@ returns g c =
                   feed_sound choices run every whole Reverse,
                 ))
                 (λ k these own forward reverse at named set first second.
-                let fed = opened.fed told in
                 let same : own.encoding ≡ choices.encoding =
                 (let e = sym set ∙ right in let c : own ≡ choices = cc in ap (λ x. x.encoding) c) in
                 let one : forward ≡ inputs.forward.to_come =
-                (let e = sym first ∙ fed.forward.bytes_are in cc) in
+                (let e = sym first ∙ (opened.fed.forward told.inputs.0).bytes_are in cc) in
                 let two : reverse ≡ inputs.reverse.to_come =
-                (let e = sym second ∙ fed.reverse.bytes_are in cc) in
+                (let e = sym second ∙ (opened.fed.reverse told.inputs.1).bytes_are in cc) in
                 let formed = sym opened.ready.form in
                 (λ i. names_of_pair k (formed i) (same i) (one i) (two i))
                 ∙ names_told inputs.form choices.encoding inputs.forward inputs.reverse
                 account.outcome c.run-account.result.unmatched account.refused
                 c.inputs_done-inputs.result c.store-errors.result _ k these c.seen_of.ensures
-                c.run-account.ensures.names is at named (are_told told).forward
-                (are_told told).reverse);
+                c.run-account.ensures.names is at named (are_told told.inputs).forward
+                (are_told told.inputs).reverse);
             its_error =
                 let inputs_say : FilesState → Type 0 =
                 λ s. InputsMaySay (filed s a).inputs s.may_say c.inputs_done-inputs.result in

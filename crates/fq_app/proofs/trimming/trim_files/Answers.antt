@@ -31,9 +31,9 @@ returns-in_err-devices-clause-refused g c =
 
 -- if an output or the report leads to an input, the call fails and no file changes
 pub returns-in_err-devices-clause-spared : goal.returns-in_err-devices-clause-spared
-returns-in_err-devices-clause-spared g c = λ told name made leads. (
+returns-in_err-devices-clause-spared g c = λ name made told leads. (
   c.from_residual-in_err-devices.ensures.0,
-  (c.in_err-devices.ensures.spared told name made leads).1,
+  (c.in_err-devices.ensures.spared name made told leads).1,
 )
 
 -- a run changes only the files of the outputs and of the report

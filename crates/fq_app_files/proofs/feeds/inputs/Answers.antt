@@ -16,7 +16,7 @@ returns-in_err-reverse-in-Apart-clause-refused g c =
     let two = rw (leads_as _ _ one.kept) at c.in_err-reverse-in-Apart.ensures.refused in
     rw (p.1, p.2) (record {
       inputs = λ told. tells_reverse a.inputs _ _ _ two.refused
-          (subst IsSome (sym (one.opened.fed told).bytes_are) refl)
+          (subst IsSome (sym (one.opened.fed told.0).bytes_are) refl)
           one.kept one.linked;
       early = two.early;
       late = two.late;

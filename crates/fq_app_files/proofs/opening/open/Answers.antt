@@ -1,13 +1,14 @@
-use Rattle.std.proofs.Common.{◌∙◌, IsSome, IsTrue, Option, List, ℕ, sym, ap, subst}
+use Rattle.std.proofs.Common.{◌∙◌, IsTrue, inl, inr, sym, ap, subst}
 use Rattle.std.proofs.lemmas.Result.{err_from_is_err_and}
 use Rattle.fq_files.specs.States.{FilesState}
 use Rattle.fq_files.proofs.StateLemmas.{same_as, told_as, told_before}
 use Rattle.fq_app_words.specs.Requests.{asking_of}
-use Rattle.fq_app_files.specs.Trimming.{filed, opened_of}
-use Rattle.fq_app_files.proofs.FiledLemmas.{leads_as, writes_as}
+use Rattle.fq_run_core.specs.Devices.{outlet_states}
+use Rattle.fq_app_files.specs.Trimming.{filed, opened_of, AreInputsTold, AreMadeTold, WriteTheirs}
+use Rattle.fq_app_files.proofs.FiledLemmas.{leads_as}
 use Rattle.fq_app_files.proofs.LeavingLemmas.{leaves_since, report_after, report_refused, unchanged_or_nothing}
 use Rattle.fq_app_files.proofs.MakingLemmas.{five_empty, five_held, report_unmade, rest_made, still_empty}
-use Rattle.fq_app_files.proofs.OpeningLemmas.{leads_nowhere, late_status, no_inputs, refusable_since, refused_late, report_late, still_there}
+use Rattle.fq_app_files.proofs.OpeningLemmas.{leads_nowhere, late_status, no_inputs, refusable_since, refused_late, report_late}
 use Rattle.fq_app_files.proofs.opening.open.Goals as goal
 
 -- a refused output: what its refusal says is true, and the files hold what it leaves
@@ -26,13 +27,16 @@ returns-in_err-outlets-clause-unopened g c =
     (ap (λ (files : FilesState). files.refuses) inputs.kept) inputs.linked
     refused.refused) inputs.opened.fed
     (λ told.
-    let told_2 = told_as _ _ outputs.kept (told_as _ _ inputs.kept told) in
+    let told_2 = told_as (AreMadeTold a) _ _ outputs.kept
+    (told_as (AreMadeTold a) _ _ inputs.kept told) in
     leaves_since a _ _ _ _ same (refused.unmade told_2).leaves)
     (λ told name named free.
-    let told_2 = told_as _ _ outputs.kept (told_as _ _ inputs.kept told) in
+    let told_2 = told_as (AreMadeTold a) _ _ outputs.kept
+    (told_as (AreMadeTold a) _ _ inputs.kept told) in
     report_after _ _ _ ((refused.unmade told_2).rest name free ∙ same name))
     (λ told name free other.
-    let told_2 = told_as _ _ outputs.kept (told_as _ _ inputs.kept told) in
+    let told_2 = told_as (AreMadeTold a) _ _ outputs.kept
+    (told_as (AreMadeTold a) _ _ inputs.kept told) in
     (refused.unmade told_2).rest name free ∙ same name))
 
 -- a refused report: what its refusal says is true, and the files hold what it leaves
@@ -59,60 +63,63 @@ returns-in_err-report-clause-unopened g c =
     (subst (λ (files : FilesState). IsTrue (files.is_open name)) outputs.kept leads))
     refused.refused) inputs.opened.fed
     (λ told.
-    let told_2 = told_as _ _ outputs.kept (told_as _ _ inputs.kept told) in
+    let told_2 = told_as (AreMadeTold a) _ _ outputs.kept
+    (told_as (AreMadeTold a) _ _ inputs.kept told) in
     report_unmade a _ _ _ refused.why_is
     (still_empty a _ _ (five_empty _ _ _ (made.made told_2))
-    (refused.left told_2) (others told_2)))
+    (λ name named. refused.left name named (told_2 name (inr named))) (others told_2)))
     (λ told name named free.
-    let told_2 = told_as _ _ outputs.kept (told_as _ _ inputs.kept told) in
+    let told_2 = told_as (AreMadeTold a) _ _ outputs.kept
+    (told_as (AreMadeTold a) _ _ inputs.kept told) in
     let kept = rest_made _ _ _ _ (made.made told_2) name free ∙ same name in
     report_refused _ _ _ refused.why_is
-    (unchanged_or_nothing _ _ _ kept (refused.left told_2 name named)))
+    (unchanged_or_nothing _ _ _ kept (refused.left name named (told_2 name (inr named)))))
     (λ told name free other.
-    let told_2 = told_as _ _ outputs.kept (told_as _ _ inputs.kept told) in
+    let told_2 = told_as (AreMadeTold a) _ _ outputs.kept
+    (told_as (AreMadeTold a) _ _ inputs.kept told) in
     others told_2 name other ∙ (rest_made _ _ _ _ (made.made told_2) name free
     ∙ same name)))
 
 -- if an output is refused as it is made, no output and no report leads to an input
 pub returns-in_err-outlets-clause-spared : goal.returns-in_err-outlets-clause-spared
-returns-in_err-outlets-clause-spared g c = λ told name made leads.
+returns-in_err-outlets-clause-spared g c = λ name made told leads.
     let inputs = c.in_ok-feeds.ensures in
-    let told_1 = told_as _ _ inputs.kept told in
+    let told_1 = told_as (λ tells. IsTrue (tells name)) _ _ inputs.kept told in
     let led = leads_as _ _ inputs.kept in
     absurd (leads_nowhere
-    (filed (g.T.Files.state c.args.files.now) (asking_of c.args.request.now)) _ _
+    (filed (g.T.Files.state c.args.files.now) (asking_of c.args.request.now)) _ _ _
     (ap (λ (files : FilesState). files.is_open) c.in_err-outlets.ensures.kept)
-    (rw led at (c.input_among_outputs.ensures.none c.in_default.is told_1))
-    (rw led at (c.input_as_report.ensures.none c.if-input_as_report.false told_1))
-    name made leads)
+    (rw led at (c.input_among_outputs.ensures.none c.in_default.is))
+    (rw led at (c.input_as_report.ensures.none c.if-input_as_report.false))
+    name made told_1 leads)
 
 -- if the report is refused as it is made, neither it nor an output leads to an input
 pub returns-in_err-report-clause-spared : goal.returns-in_err-report-clause-spared
-returns-in_err-report-clause-spared g c = λ told name made leads.
+returns-in_err-report-clause-spared g c = λ name made told leads.
     let inputs = c.in_ok-feeds.ensures in
-    let told_1 = told_as _ _ inputs.kept told in
+    let told_1 = told_as (λ tells. IsTrue (tells name)) _ _ inputs.kept told in
     let led = leads_as _ _ inputs.kept in
     absurd (leads_nowhere
-    (filed (g.T.Files.state c.args.files.now) (asking_of c.args.request.now)) _ _
+    (filed (g.T.Files.state c.args.files.now) (asking_of c.args.request.now)) _ _ _
     (ap (λ (files : FilesState). files.is_open) c.in_err-report.ensures.kept
     ∙ ap (λ (files : FilesState). files.is_open) c.in_ok-outlets.ensures.kept)
-    (rw led at (c.input_among_outputs.ensures.none c.in_default.is told_1))
-    (rw led at (c.input_as_report.ensures.none c.if-input_as_report.false told_1))
-    name made leads)
+    (rw led at (c.input_among_outputs.ensures.none c.in_default.is))
+    (rw led at (c.input_as_report.ensures.none c.if-input_as_report.false))
+    name made told_1 leads)
 
 -- if everything is opened, no output and no report leads to an input
 pub returns-clause-spared : goal.returns-clause-spared
-returns-clause-spared g c = λ told name made leads.
+returns-clause-spared g c = λ name made told leads.
     let inputs = c.in_ok-feeds.ensures in
-    let told_1 = told_as _ _ inputs.kept told in
+    let told_1 = told_as (λ tells. IsTrue (tells name)) _ _ inputs.kept told in
     let led = leads_as _ _ inputs.kept in
     absurd (leads_nowhere
-    (filed (g.T.Files.state c.args.files.now) (asking_of c.args.request.now)) _ _
+    (filed (g.T.Files.state c.args.files.now) (asking_of c.args.request.now)) _ _ _
     (ap (λ (files : FilesState). files.is_open) c.in_ok-report.ensures.kept
     ∙ ap (λ (files : FilesState). files.is_open) c.in_ok-outlets.ensures.kept)
-    (rw led at (c.input_among_outputs.ensures.none c.in_default.is told_1))
-    (rw led at (c.input_as_report.ensures.none c.if-input_as_report.false told_1))
-    name made leads)
+    (rw led at (c.input_among_outputs.ensures.none c.in_default.is))
+    (rw led at (c.input_as_report.ensures.none c.if-input_as_report.false))
+    name made told_1 leads)
 
 -- the devices are ready, the feeds have the bytes of the inputs, and other files are the same
 pub returns-clause-opened : goal.returns-clause-opened
@@ -132,35 +139,27 @@ returns-clause-opened g c =
         fresh = inputs.opened.fresh;
         healthy = made.healthy;
         log = made.log;
-        empty = λ told.
-            let told_2 = told_before _ _ report.kept told in
-            made.empty (told_before _ _ outputs.kept told_2);
-        theirs = λ told.
-            let told_2 = told_before _ _ report.kept told in
-            let told_1 = told_before _ _ outputs.kept told_2 in
-            rw (sym (writes_as _ _ report.kept ∙ writes_as _ _ outputs.kept)) at
-            (made.theirs told_1);
-        there = λ told.
-            let told_2 = told_before _ _ report.kept told in
-            let told_1 = told_before _ _ outputs.kept told_2 in
-            still_there _ a.inputs _ _ (inputs.opened.fed (told_before _ _ inputs.kept told_1))
-            (λ name some.
-            let P : Option (List ℕ) → Type 0 = λ bytes. IsSome bytes in
-            report.held told_2 name
-            (outputs.names told_1 name (subst P (sym (same name)) some)));
+        empty = λ told. made.empty (told_before (AreMadeTold a) _ _ outputs.kept
+            (told_before (AreMadeTold a) _ _ report.kept told));
+        theirs =
+            let P : FilesState → Type 0 =
+            λ s. WriteTheirs a s (outlet_states g.T.Target.Outlet.state c.in_ok-outlets.outlets) in
+            subst P (sym report.kept) (subst P (sym outputs.kept) made.theirs);
         held = λ told out name named.
-            let told_2 = told_before _ _ report.kept told in
-            report.held told_2 name (five_held _ _ _ (made.made told_2) out name named);
+            let told_2 = told_before (AreMadeTold a) _ _ report.kept told in
+            report.held name (told_2 name (inl (out, named)))
+            (five_held _ _ _ (made.made told_2) out name named);
         report_made = rw led_2 at report.made;
       };
       fed = inputs.opened.fed;
       apart = λ told.
-          let told_1 = told_as _ _ inputs.kept told in
-          no_inputs a _ inputs.open
-          (rw led_1 at (c.input_among_outputs.ensures.none c.in_default.is told_1))
-          (rw led_1 at (c.input_as_report.ensures.none c.if-input_as_report.false told_1));
+          no_inputs a _ _ inputs.open
+          (rw led_1 at (c.input_among_outputs.ensures.none c.in_default.is))
+          (rw led_1 at (c.input_as_report.ensures.none c.if-input_as_report.false))
+          (told_as (AreInputsTold a.inputs) _ _ inputs.kept told);
       rest = λ told name free other.
-          let told_2 = told_as _ _ outputs.kept (told_as _ _ inputs.kept told) in
+          let told_2 = told_as (AreMadeTold a) _ _ outputs.kept
+          (told_as (AreMadeTold a) _ _ inputs.kept told) in
           others told_2 name other ∙ (rest_made _ _ _ _ (made.made told_2) name free
           ∙ same name);
     }

@@ -23,15 +23,18 @@ returns-clause-made g c =
     cases_mapped c.target.result c.map_err.result _ _ _ c.map_err.ensures.cases
     (λ target made. record {
       fresh = rw made at c.target.ensures.fresh;
-      empty = λ told. record {
-        tells = (rw made at c.target.ensures.telling) told;
-        taken = (rw made at c.target.ensures.nothing) told;
-      };
-      theirs = λ told file is.
+      empty = λ told.
+          let own = told (old.leads c.in-Some.name.now) (inl (c.args.out, named)) in
+          record {
+            tells = (rw made at c.target.ensures.telling) own;
+            taken = (rw made at c.target.ensures.nothing) own;
+          };
+      theirs = λ file is.
           let same : Some (old.leads c.in-Some.name.now) ≡ Some file = sym named ∙ is in
           let equal : old.leads c.in-Some.name.now ≡ file = cc in
-          subst (λ (x : List ℕ). IsTrue (old.writes (g.T.Target.Outlet.state target).file x)) equal
-          ((rw made at c.target.ensures.written) told);
+          subst (λ (x : List ℕ). IsTrue (old.tells x) →
+          IsTrue (old.writes (g.T.Target.Outlet.state target).file x)) equal
+          (rw made at c.target.ensures.written);
       made = λ start first. one_made a start c.args.out _ named
           _ _ c.target.ensures.kept first c.target.ensures.others
           (rw made at c.target.ensures.emptied);

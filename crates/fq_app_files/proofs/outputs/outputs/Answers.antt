@@ -1,12 +1,13 @@
-use Rattle.std.proofs.Common.{◌≡◌, ℕ, IsTrue, List, Some, refl}
+use Rattle.std.proofs.Common.{◌≡◌, ℕ, IsTrue, List, Option, Some, refl, subst}
 use Rattle.std.proofs.lemmas.Result.{err_from_is_err_and}
 use Rattle.fq_pair.specs.declared.out.Out.{Out}
 use Rattle.fq_pair.specs.declared.out.Out.TheVariants.{ForwardPaired, ForwardUnpaired, ReversePaired, ReverseUnpaired, Log}
 use Rattle.fq_text.specs.Devices.{OutletState}
 use Rattle.fq_app_words.specs.Requests.{asking_of, output_name}
+use Rattle.fq_files.specs.States.{FilesState, OnlyWrites}
 use Rattle.fq_files.proofs.StateLemmas.{then_write, told_as}
-use Rattle.fq_app_files.specs.Trimming.{filed, IsEmptyOutlet}
-use Rattle.fq_app_files.proofs.FiledLemmas.{leads_as, writes_as}
+use Rattle.fq_app_files.specs.Trimming.{filed, AreMadeTold, IsEmptyOutlet}
+use Rattle.fq_app_files.proofs.FiledLemmas.{leads_as}
 use Rattle.fq_app_files.proofs.MakingLemmas.{each_outlet, none_made, no_log_made}
 use Rattle.fq_app_files.proofs.OpeningLemmas.{outputs_refused}
 use Rattle.fq_app_files.proofs.outputs.outputs.Goals as goal
@@ -107,8 +108,14 @@ returns-clause-made g c =
     let made_3 = three.made _ made_2 in
     let made_4 = four.made _ made_3 in
     let empty : Out → OutletState → Type 0 = λ out outlet. IsEmptyOutlet outlet in
-    let theirs : Out → OutletState → Type 0 = λ out outlet. (file : List ℕ) →
-    output_name a out ≡ Some file → IsTrue (old.writes outlet.file file) in
+    let writes : FilesState → Out → Option ℕ → Type 0 = λ files out number. (file : List ℕ) →
+    output_name a out ≡ Some file → IsTrue (files.tells file) →
+    IsTrue (files.writes number file) in
+    let since : (mid : FilesState) (out : Out) (number : Option ℕ) → OnlyWrites old mid →
+    writes mid out number → writes old out number =
+    λ mid out number kept. subst (λ (files : FilesState). writes files out number) kept in
+    let theirs : Out → OutletState → Type 0 = λ out outlet. writes old out outlet.file in
+    let told_in = AreMadeTold a in
     elim c.match-request.branch [
       | in-Some+in_ok-output-in-Some w ↦ rw (w.files-is, w.log-is) (
           let five = rw (leads_as _ _ kept_4) at w.in_ok-output-in-Some.ensures.made in
@@ -121,16 +128,15 @@ returns-clause-made g c =
               log = five.fresh;
             };
             log = rw w.in-Some.is refl;
-            empty = λ told.
-                each_outlet empty _ (one.empty told) (two.empty (told_as _ _ first.kept told))
-                (three.empty (told_as _ _ kept_2 told)) (four.empty (told_as _ _ kept_3 told))
-                (five.empty (told_as _ _ kept_4 told));
-            theirs = λ told out file outlet named at.
-                each_outlet theirs _ (one.theirs told)
-                ((rw (writes_as _ _ first.kept) at two.theirs) (told_as _ _ first.kept told))
-                ((rw (writes_as _ _ kept_2) at three.theirs) (told_as _ _ kept_2 told))
-                ((rw (writes_as _ _ kept_3) at four.theirs) (told_as _ _ kept_3 told))
-                ((rw (writes_as _ _ kept_4) at five.theirs) (told_as _ _ kept_4 told))
+            empty = λ told. each_outlet empty _ (one.empty told)
+                (two.empty (told_as told_in _ _ first.kept told))
+                (three.empty (told_as told_in _ _ kept_2 told))
+                (four.empty (told_as told_in _ _ kept_3 told))
+                (five.empty (told_as told_in _ _ kept_4 told));
+            theirs = λ out file outlet named at. each_outlet theirs _ one.theirs
+                (since _ ForwardUnpaired _ first.kept two.theirs)
+                (since _ ReversePaired _ kept_2 three.theirs)
+                (since _ ReverseUnpaired _ kept_3 four.theirs) (since _ Log _ kept_4 five.theirs)
                 out outlet at file named;
             made = five.made _ made_4;
           })
@@ -143,15 +149,14 @@ returns-clause-made g c =
           log = tt;
         };
         log = rw w.in-None.is refl;
-        empty = λ told.
-            each_outlet empty _ (one.empty told) (two.empty (told_as _ _ first.kept told))
-            (three.empty (told_as _ _ kept_2 told)) (four.empty (told_as _ _ kept_3 told)) tt;
-        theirs = λ told out file outlet named at.
-            each_outlet theirs _ (one.theirs told)
-            ((rw (writes_as _ _ first.kept) at two.theirs) (told_as _ _ first.kept told))
-            ((rw (writes_as _ _ kept_2) at three.theirs) (told_as _ _ kept_2 told))
-            ((rw (writes_as _ _ kept_3) at four.theirs) (told_as _ _ kept_3 told)) tt
-            out outlet at file named;
+        empty = λ told. each_outlet empty _ (one.empty told)
+            (two.empty (told_as told_in _ _ first.kept told))
+            (three.empty (told_as told_in _ _ kept_2 told))
+            (four.empty (told_as told_in _ _ kept_3 told)) tt;
+        theirs = λ out file outlet named at. each_outlet theirs _ one.theirs
+            (since _ ForwardUnpaired _ first.kept two.theirs)
+            (since _ ReversePaired _ kept_2 three.theirs)
+            (since _ ReverseUnpaired _ kept_3 four.theirs) tt out outlet at file named;
         made = λ told. no_log_made a _ _ (rw w.in-None.is refl) (made_4 told);
       })
     ]

@@ -8,14 +8,6 @@ use Rattle.fq_app_files.proofs.StoreLemmas.{one_stored, still_held}
 use Rattle.fq_app_files.proofs.CountingLemmas.{one_counted}
 use Rattle.fq_app_files.proofs.outputs.store_one.Goals as goal
 
--- the file of the output exists when its outlet is handed back
-pub done-requires-after_bounds : goal.done-requires-after_bounds
-done-requires-after_bounds g c κs within =
-    let old = g.T.Files.state c.args.files.now in
-    let named = sym c.output_name.ensures ∙ ap (option_map (λ name. name.now)) c.in-Some.is in
-    λ told. c.requires.held told c.args.out (old.leads c.in-Some.name.now)
-    (output_filed old (asking_of c.args.request.now) c.args.out c.in-Some.name.now named)
-
 -- the file of each output still exists
 pub returns-clause-held : goal.returns-clause-held
 returns-clause-held g c =
@@ -34,7 +26,7 @@ returns-clause-stored g c =
     record {
       stored = λ start states at first. one_stored (filed old a) start states c.args.out file
           outlet old (g.T.Files.state c.done.new.self) named at
-          c.done.ensures.kept c.done.ensures.stored c.done.ensures.others first;
+          c.done.ensures.kept c.done.ensures.stored c.done.ensures.others c.requires.held first;
       counted = λ start states at first. one_counted (filed old a) states c.args.out file
           outlet start _ _ named at
           c.done.ensures.failed c.done.ensures.sound c.done.ensures.still first;

@@ -1,4 +1,4 @@
-use Rattle.std.proofs.Common.{◌≡◌, ◌⊎◌, ◌∙◌, ⊎_elim, ℕ, List, [], inl, inr, Some, Err, sym, ap, subst}
+use Rattle.std.proofs.Common.{◌≡◌, ◌⊎◌, ◌∙◌, ⊎_elim, ℕ, IsTrue, List, [], inl, inr, Some, Err, sym, ap, subst}
 use Rattle.std.specs.Option.{option_map}
 use Rattle.fq_files.specs.States.{MayRefuse}
 use Rattle.fq_app_words.specs.Requests.{asking_of}
@@ -22,10 +22,10 @@ returns-in-Err-clause-refused g c =
       why_is = ⊎_elim (λ report. inl (report.0, report.2)) (λ memory. inr memory) why;
       refused = report_is_refused a file named (MayRefuse old) c.in-Err.fault _
           (λ cause is. c.target.ensures.rightly cause (c.in-Err.is ∙ ap Err is)) why;
-      left = λ told other is.
+      left = λ other is told.
           let same : Some file ≡ Some other = sym named ∙ is in
           let equal : file ≡ other = cc in
           let P : List ℕ → Type 0 =
-          λ x. (new.bytes x ≡ old.bytes x) ⊎ (new.bytes x ≡ Some []) in
-          subst P equal (c.in-Err.ensures.refused told);
+          λ x. IsTrue (old.tells x) → (new.bytes x ≡ old.bytes x) ⊎ (new.bytes x ≡ Some []) in
+          subst P equal c.in-Err.ensures.refused told;
     }

@@ -8,6 +8,6 @@ returns-clause-refused g c = λ cause is. record {
   missing = λ error same. (refl, λ told. inr (grind (arith)));
   twice = λ same. leads_open _ _ _ (λ tells.
       (c.open_source.ensures.rightly cause is tells).input same);
-  no_output = λ same. none_led _ _ (λ tells.
+  no_output = λ same. none_led _ _ _ (λ tells.
       (c.open_source.ensures.rightly cause is tells).output same);
 }

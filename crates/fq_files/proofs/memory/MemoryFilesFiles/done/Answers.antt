@@ -8,4 +8,4 @@ returns-in-Some-clause-others c = λ told other differs. grind (arith, text_keys
 
 -- a name that was held is still held
 pub returns-in-Some-clause-held : goal.returns-in-Some-clause-held
-returns-in-Some-clause-held c = λ told name held. grind (arith, text_keys)
+returns-in-Some-clause-held c = λ name told held. grind (arith, text_keys)
