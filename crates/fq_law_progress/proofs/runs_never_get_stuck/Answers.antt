@@ -1,6 +1,7 @@
 use Rattle.std.proofs.Common.{◌⊎◌, inl, inr, ⊎_elim, ℕ, ◌<◌, ◌≤◌, arith, ◌≡◌, length, refl, Bool, true, false, ap, [], ◌∙◌, List, ◌∷◌, suc, zero}
 use Rattle.std.proofs.lemmas.Bool.{cases_order}
-use Rattle.fq_law_progress.specs.Model.{Run, Reply, takes, answers, empties, left, State, closed_lanes, texts, Doing, deals, awaits_start, Dealer, passes_start, closes, IsRun, writes, stop, Seat, drains, awaits_dealer, awaits_workers, Caller, begins, closes_start}
+use Rattle.fq_work.specs.Doing.{Reply, takes, answers, empties, left, texts, Doing, stop}
+use Rattle.fq_law_progress.specs.Model.{Run, State, closed_lanes, deals, awaits_start, Dealer, passes_start, closes, IsRun, writes, Seat, drains, awaits_dealer, awaits_workers, Caller, begins, closes_start}
 use Rattle.fq_law_progress.specs.Moves.{leave, take_block, put_reply, empty_block, take_start, find_no_start, deal, end_reading, pass_start, close_blocks, write, hear_stop, find_mark, next_reply, drop_reply, drop_mark, end_drain, join_dealer, join_worker, put_start, close_start, give_up, Move, after, AreMoves, after_all}
 use Rattle.fq_law_progress.specs.Progress.{CanGoOn, HasEnded, NeverStuck}
 use Rattle.fq_law_progress.proofs.Kept.{in_hand, Phase, IsKept, in_seat, has_stop, keeps, kept_start, all_written}
