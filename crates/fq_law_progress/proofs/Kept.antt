@@ -1,7 +1,7 @@
 -- What holds in every state that a run reaches.
-use Rattle.std.proofs.Common.{◌≡◌, ◌⊎◌, inl, inr, ⊎_elim, ℕ, suc, ◌+◌, ◌%◌, ◌<◌, ◌≤◌, Bool, true, false, Some, List, [], ◌∷◌, ◌++◌, length, drop, length-append, refl, sym, ap, ◌∙◌, subst, arith}
-use Rattle.std.proofs.lemmas.Bool.{cases_order}
-use Rattle.fq_law_progress.specs.Model.{Run, IsRun, Reply, texts, stop, Doing, takes, answers, empties, left, Seat, Dealer, awaits_start, deals, passes_start, closes, Caller, begins, closes_start, writes, drains, awaits_dealer, awaits_workers, State, closed_lanes, changed, new_seat, start}
+use Rattle.std.proofs.Common.{◌≡◌, ◌⊎◌, inr, ⊎_elim, ℕ, suc, ◌+◌, ◌<◌, ◌≤◌, Bool, true, false, Some, List, [], ◌∷◌, ◌++◌, length, drop, length-append, refl, sym, ap, ◌∙◌, arith}
+use Rattle.fq_work.specs.Doing.{Reply, texts, stop, Doing, takes, answers, empties, left}
+use Rattle.fq_law_progress.specs.Model.{Run, IsRun, Seat, Dealer, awaits_start, deals, closes, Caller, begins, closes_start, writes, drains, awaits_dealer, awaits_workers, State, closed_lanes, changed, new_seat, start}
 use Rattle.fq_law_progress.specs.Moves.{Move, put_start, close_start, give_up, write, fail_to_write, hear_stop, find_mark, drop_reply, drop_mark, end_drain, join_dealer, join_worker, take_start, find_no_start, deal, end_reading, pass_start, close_blocks, take_block, put_reply, empty_block, leave, May, after, next_reply, with_block, with_block_taken, with_reply, with_reply_taken}
 use Rattle.fq_law_progress.proofs.Seats.{changed_each, below_next}
 use Rattle.fq_law_progress.proofs.Turns.{turn_at, share, share_here, share_away, turn_below, share_less}
@@ -98,6 +98,13 @@ kept_start p = grind (arith, common_steps)
 
 -- Moves of a worker.
 
+hold_all : (p : Run) (c d j : ℕ) (q : Seat) (seats : ℕ → Seat) →
+    ((c d : ℕ) → Holds c d (seats j) → Holds c d q) → HoldAll p c d seats →
+    HoldAll p c d (changed j q seats)
+hold_all p c d j q seats holds all = changed_each (λ i seat. i < p.workers →
+    Holds (share p.workers c i) (share p.workers d i) seat) j q seats
+    (λ h. holds _ _ (all j h)) (λ i other. all i)
+
 worker_phase : (p : Run) (s : State) (j : ℕ) (q : Seat) → j < p.workers → ((s ≡ start) → ⊥)
     → ((c d : ℕ) → Holds c d (s.seats j) → Holds c d q)
     → (IsQuiet (s.seats j) → IsQuiet q)
@@ -105,23 +112,11 @@ worker_phase : (p : Run) (s : State) (j : ℕ) (q : Seat) → j < p.workers → 
     → (caller : Caller) → Phase p s caller →
     Phase p (record s { seats = changed j q s.seats }) caller
 worker_phase p s j q within begun holds quiet stays begins ph = absurd (begun ph)
-worker_phase p s j q within begun holds quiet stays closes_start ph = (
-  ph.0,
-  changed_each (λ i seat. i < p.workers →
-      Holds (share p.workers s.written i) (share p.workers s.dealt i) seat) j q s.seats
-      (λ h. holds _ _ (ph.1 j h)) (λ i other. ph.1 i),
-)
-worker_phase p s j q within begun holds quiet stays writes ph = (
-  ph.0,
-  changed_each (λ i seat. i < p.workers →
-      Holds (share p.workers s.written i) (share p.workers s.dealt i) seat) j q s.seats
-      (λ h. holds _ _ (ph.1 j h)) (λ i other. ph.1 i),
-  ph.2,
-)
-worker_phase p s j q within begun holds quiet stays drains ph = ph
-worker_phase p s j q within begun holds quiet stays awaits_dealer ph =
-    grind (arith, common_steps, changed_each, IsQuiet)
-worker_phase p s j q within begun holds quiet stays (awaits_workers k) ph =
+worker_phase p s j q within begun holds quiet stays closes_start ph =
+    (ph.0, hold_all p _ _ j q s.seats holds ph.1)
+worker_phase p s j q within begun holds quiet stays writes ph =
+    (ph.0, hold_all p _ _ j q s.seats holds ph.1, ph.2)
+worker_phase p s j q within begun holds quiet stays caller ph =
     grind (arith, common_steps, changed_each, IsQuiet)
 
 worker_moves : (p : Run) (s : State) (j : ℕ) (q : Seat) → IsKept p s → j < p.workers →
@@ -182,7 +177,8 @@ emptied_holds : (c d : ℕ) (q : Seat) → q.doing ≡ empties → 0 < q.blocks 
     Holds c d (with_block_taken q empties)
 emptied_holds c d q e some h = grind (arith, common_steps)
 
-in_hand_none : (x : Doing) → (x ≡ takes) ⊎ (x ≡ empties) → in_hand x ≡ 0
+-- a worker that waits for a block has none in hand
+pub in_hand_none : (x : Doing) → (x ≡ takes) ⊎ (x ≡ empties) → in_hand x ≡ 0
 in_hand_none x e = grind (arith, common_steps)
 
 left_holds : (c d : ℕ) (q : Seat) → (q.doing ≡ takes) ⊎ (q.doing ≡ empties) → Holds c d q →
@@ -292,11 +288,7 @@ keeps p s find_mark run kept may = grind (arith, common_steps, Phase, takes_from
 keeps p s (drop_reply j) run kept may = grind (arith, common_steps, takes_from, taken_closes, Phase)
 keeps p s (drop_mark j) run kept may = grind (arith, common_steps, takes_from, marked_closes, Phase)
 keeps p s end_drain run kept may =
-    let ph : Phase p s drains = subst (Phase p s) may.0 kept.phase in
-    let first : 0 < p.workers = omega (arith, run.some_workers) in
-    let over = (kept.marks 0 first).over ((kept.marks 0 first).told (may.1 0 first)) in
-    caller_moves p s awaits_dealer s.start_item s.start_mark kept
-    (inr (closed_by s.dealer over), (λ i h. inl ((kept.marks i h).told (may.1 i h))), ph.1)
+    grind (arith, common_steps, Phase, caller_moves, closed_by, kept.marks 0, may.1 0)
 keeps p s join_dealer run kept may = grind (arith, common_steps, Phase, caller_moves)
 keeps p s (join_worker k) run kept may =
     grind (arith, common_steps, Phase, caller_moves, below_next)
@@ -308,13 +300,13 @@ keeps p s pass_start run kept may = grind (arith, common_steps, dealer_moves)
 keeps p s (close_blocks k) run kept may = grind (arith, common_steps, dealer_moves)
 keeps p s (take_block j r) run kept may =
     let q = s.seats j in
-    worker_moves p s j (with_block_taken q (answers r)) kept (omega (arith, may.0, run.few_threads))
-    (λ e. absurd (omega (arith, may.2, ap (λ (x : State). (x.seats j).blocks) e)))
-    (working_closes _ j q (with_block_taken q (answers r)) (λ e. (let b = may.1 in cc)) (λ e. cc)
-    refl)
-    (λ c d. taken_holds c d q r may.1 may.2)
-    (⊎_elim (λ e. (let b = may.1 in cc)) (λ h. absurd (omega (arith, h.1, may.2))))
-    (λ e. (let b = may.1 in cc))
+    grind (
+      arith,
+      common_steps,
+      worker_moves p s j (with_block_taken q (answers r)) kept,
+      working_closes (closed_lanes s.dealer) j q,
+      taken_holds,
+    )
 keeps p s (put_reply j r) run kept may =
     let q = s.seats j in
     worker_moves p s j (with_reply q r) kept (omega (arith, may.0, run.few_threads)) (λ e. (let a =
@@ -325,32 +317,33 @@ keeps p s (put_reply j r) run kept may =
     (λ e. (let b = may.1 in cc))
 keeps p s (empty_block j) run kept may =
     let q = s.seats j in
-    worker_moves p s j (with_block_taken q empties) kept (omega (arith, may.0, run.few_threads))
-    (λ e. absurd (omega (arith, may.2, ap (λ (x : State). (x.seats j).blocks) e)))
-    (working_closes _ j q (with_block_taken q empties) (λ e. (let b = may.1 in cc)) (λ e. cc) refl)
-    (λ c d. emptied_holds c d q may.1 may.2)
-    (⊎_elim (λ e. (let b = may.1 in cc)) (λ h. absurd (omega (arith, h.1, may.2))))
-    (λ e. (let b = may.1 in cc))
+    grind (
+      arith,
+      common_steps,
+      worker_moves p s j (with_block_taken q empties) kept,
+      working_closes (closed_lanes s.dealer) j q,
+      emptied_holds,
+    )
 keeps p s (leave j) run kept may =
     let q = s.seats j in
-    worker_moves p s j (record q { doing = left }) kept (omega (arith, may.0, run.few_threads))
-    (λ e. absurd (omega (arith, may.3, ap (λ (x : State). closed_lanes x.dealer) e)))
-    (λ h. record { over = λ e. may.3; told = λ e. refl })
-    (λ c d. left_holds c d q may.1)
-    (λ h. inl refl)
-    (λ e. refl)
+    grind (
+      arith,
+      common_steps,
+      worker_moves p s j (record q { doing = left }) kept,
+      left_holds,
+    )
 
 -- If all that was dealt to the worker in turn was written, so was all that was dealt.
 pub all_written : (p : Run) (s : State) → IsRun p → IsKept p s →
     HoldAll p s.written s.dealt s.seats → share p.workers s.dealt s.turn ≤ share p.workers s.written
     s.turn → s.written ≡ s.dealt
-all_written p s run kept holds few = ⊎_elim
-    (λ e. e)
-    (⊎_elim
-    (λ h. (let less = share_less p.workers s.written s.dealt h in let less' =
-    rw (← kept.turn) at less in absurd (omega (arith, less', few))))
-    (λ h. (let less = share_less p.workers s.dealt s.written h in
-    let t = turn_at p.workers s.dealt in
-    let most = (holds t (turn_below p.workers s.dealt run.some_workers)).most in
-    absurd (omega (arith, less, most)))))
-    (cases_order s.written s.dealt)
+all_written p s run kept holds few =
+    grind (
+      arith,
+      common_steps,
+      share_less p.workers s.written s.dealt,
+      share_less p.workers s.dealt s.written,
+      holds (turn_at p.workers s.dealt),
+      turn_below p.workers s.dealt,
+      kept.turn,
+    )

@@ -1,8 +1,9 @@
 -- Each move leaves less to be done.
-use Rattle.std.proofs.Common.{◌≡◌, ◌⊎◌, inl, inr, ℕ, zero, suc, ◌+◌, ◌*◌, ◌<◌, ◌≤◌, Bool, true, false, Some, List, [], ◌∷◌, length, drop, length-append, refl, ap, arith}
-use Rattle.fq_law_progress.specs.Model.{Run, IsRun, Reply, texts, stop, Doing, takes, answers, empties, left, Seat, State, changed, start}
-use Rattle.fq_law_progress.specs.Moves.{Move, put_start, close_start, give_up, write, fail_to_write, hear_stop, find_mark, drop_reply, drop_mark, end_drain, join_dealer, join_worker, take_start, find_no_start, deal, end_reading, pass_start, close_blocks, take_block, put_reply, empty_block, leave, after, AreMoves, after_all, next_reply, with_block_taken, with_reply, with_reply_taken}
-use Rattle.fq_law_progress.specs.Progress.{doing_left, mark_left, seat_left, seats_left, dealer_left, caller_left, moves_left, MovesLeaveLess, RunsAreShort}
+use Rattle.std.proofs.Common.{◌≡◌, ◌⊎◌, ℕ, zero, suc, ◌+◌, ◌*◌, ◌<◌, ◌≤◌, Bool, true, false, Some, List, [], ◌∷◌, length, drop, length-append, refl, ap, arith}
+use Rattle.fq_work.specs.Doing.{Reply, Doing, takes, answers, empties, left}
+use Rattle.fq_law_progress.specs.Model.{Run, IsRun, Seat, State, changed, start}
+use Rattle.fq_law_progress.specs.Moves.{Move, after, AreMoves, after_all, next_reply, with_block_taken, with_reply, with_reply_taken}
+use Rattle.fq_law_progress.specs.Progress.{doing_left, mark_left, seat_left, seats_left, moves_left, MovesLeaveLess, RunsAreShort}
 use Rattle.fq_law_progress.proofs.Seats.{left_changed}
 use Rattle.std.proofs.lemmas.Grind.{common_steps}
 

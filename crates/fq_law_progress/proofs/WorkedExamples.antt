@@ -1,6 +1,7 @@
 -- Runs of the model, move by move, and what gets stuck if a rule is broken.
-use Rattle.std.proofs.Common.{◌≡◌, ℕ, zero, suc, ◌<◌, List, [], ◌∷◌, length, refl, arith, rules}
-use Rattle.fq_law_progress.specs.Model.{Run, texts, stop, left, State, start}
+use Rattle.std.proofs.Common.{◌≡◌, ℕ, ◌<◌, List, [], ◌∷◌, length, refl, arith, rules}
+use Rattle.fq_work.specs.Doing.{texts, stop, left}
+use Rattle.fq_law_progress.specs.Model.{Run, State, start}
 use Rattle.fq_law_progress.specs.Moves.{Move, put_start, close_start, give_up, write, fail_to_write, hear_stop, find_mark, drop_reply, drop_mark, end_drain, join_dealer, join_worker, take_start, find_no_start, deal, end_reading, pass_start, close_blocks, take_block, put_reply, empty_block, leave, May, AreMoves, after_all, at_seat}
 use Rattle.fq_law_progress.specs.Progress.{HasEnded, moves_left}
 use Rattle.std.proofs.lemmas.Grind.{common_steps}

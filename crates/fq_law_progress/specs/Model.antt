@@ -1,5 +1,6 @@
 -- A run on several threads: what each thread does next, and what lies in the lanes between them.
 use Rattle.std.specs.Prelude.{ℕ, ◌≤◌, Bool, false, List, [], ◌==◌, if◌then◌else◌}
+use Rattle.fq_work.specs.Doing.{Reply, Doing, takes}
 
 -- What a run is given.
 pub record Run : Type 0 where
@@ -17,23 +18,6 @@ pub record IsRun (p : Run) : Type 0 where
   pub some_workers : 1 ≤ p.workers
   pub few_threads : p.started ≤ p.workers
   pub some_room : 1 ≤ p.depth
-
--- the reply to a block: its texts, or a stop because memory was refused or the gate didn't let the
--- block pass
-pub data Reply : Type 0 where
-  texts : Reply
-  stop : Reply
-
--- what a worker does next
-pub data Doing : Type 0 where
-  -- takes a block, or the mark of the blocks
-  takes : Doing
-  -- puts this reply
-  answers : Reply → Doing
-  -- takes what is left after its stop, up to the mark
-  empties : Doing
-  -- nothing: it has taken the mark of the blocks, and put that of its replies
-  left : Doing
 
 -- a worker, with the lane of its blocks and the lane of its replies
 pub record Seat : Type 0 where

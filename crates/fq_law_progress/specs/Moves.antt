@@ -1,6 +1,7 @@
 -- The moves of the threads. A thread that waits has no move until another has made one.
-use Rattle.std.specs.Prelude.{◌≡◌, ◌⊎◌, ℕ, suc, ◌-◌, ◌%◌, ◌<◌, ◌≤◌, Bool, true, false, Option, Some, None, List, [], ◌∷◌, ◌++◌, length, drop}
-use Rattle.fq_law_progress.specs.Model.{Run, Reply, texts, stop, Doing, takes, answers, empties, left, Seat, awaits_start, deals, passes_start, closes, begins, closes_start, writes, drains, awaits_dealer, awaits_workers, State, closed_lanes, changed}
+use Rattle.std.specs.Prelude.{◌≡◌, ℕ, suc, ◌-◌, ◌%◌, ◌<◌, ◌≤◌, Bool, true, false, Option, Some, None, List, [], ◌∷◌, ◌++◌, length, drop}
+use Rattle.fq_work.specs.Doing.{Reply, texts, stop, Doing, left, MayMove, does, took, put, emptied, leaves}
+use Rattle.fq_law_progress.specs.Model.{Run, Seat, awaits_start, deals, passes_start, closes, begins, closes_start, writes, drains, awaits_dealer, awaits_workers, State, closed_lanes, changed}
 
 pub data Move : Type 0 where
   -- the calling thread, as long as it starts the run
@@ -81,14 +82,15 @@ May p s pass_start = (s.dealer ≡ passes_start) × (s.start_mark ≡ true)
 May p s (close_blocks k) = (s.dealer ≡ closes k) × (k < p.workers)
 -- A worker waits for a block or the mark, and for room for its reply.
 May p s (take_block j reply) =
-    (j < p.started) × ((s.seats j).doing ≡ takes) × (0 < (s.seats j).blocks)
+    (j < p.started) × MayMove (s.seats j).doing (took reply) × (0 < (s.seats j).blocks)
 May p s (put_reply j reply) =
-    (j < p.started) × ((s.seats j).doing ≡ answers reply) × (length (s.seats j).replies < p.depth)
+    (j < p.started) × MayMove (s.seats j).doing (put reply)
+    × (length (s.seats j).replies < p.depth)
 May p s (empty_block j) =
-    (j < p.started) × ((s.seats j).doing ≡ empties) × (0 < (s.seats j).blocks)
+    (j < p.started) × MayMove (s.seats j).doing emptied × (0 < (s.seats j).blocks)
 May p s (leave j) =
-    (j < p.started) × (((s.seats j).doing ≡ takes) ⊎ ((s.seats j).doing ≡ empties))
-    × ((s.seats j).blocks ≡ 0) × (j < closed_lanes s.dealer)
+    (j < p.started) × MayMove (s.seats j).doing leaves × ((s.seats j).blocks ≡ 0)
+    × (j < closed_lanes s.dealer)
 
 -- the next worker; after the last comes the first
 abbrev pub next_turn : Run → ℕ → ℕ
@@ -103,8 +105,8 @@ abbrev pub with_block_taken : Seat → Doing → Seat
 with_block_taken seat doing = record seat { blocks = seat.blocks - 1; doing = doing }
 
 abbrev pub with_reply : Seat → Reply → Seat
-with_reply seat texts = record seat { doing = takes; replies = seat.replies ++ texts ∷ [] }
-with_reply seat stop = record seat { doing = empties; replies = seat.replies ++ stop ∷ [] }
+with_reply seat reply =
+    record seat { doing = does (put reply); replies = seat.replies ++ reply ∷ [] }
 
 abbrev pub with_reply_taken : Seat → Seat
 with_reply_taken seat = record seat { replies = drop 1 seat.replies }
@@ -149,10 +151,10 @@ after p s deal = record s {
 after p s end_reading = record s { dealer = passes_start }
 after p s pass_start = record s { dealer = closes 0 }
 after p s (close_blocks k) = record s { dealer = closes (suc k) }
-after p s (take_block j reply) = at_seat s j (with_block_taken (s.seats j) (answers reply))
+after p s (take_block j reply) = at_seat s j (with_block_taken (s.seats j) (does (took reply)))
 after p s (put_reply j reply) = at_seat s j (with_reply (s.seats j) reply)
-after p s (empty_block j) = at_seat s j (with_block_taken (s.seats j) empties)
-after p s (leave j) = at_seat s j (record (s.seats j) { doing = left })
+after p s (empty_block j) = at_seat s j (with_block_taken (s.seats j) (does emptied))
+after p s (leave j) = at_seat s j (record (s.seats j) { doing = does leaves })
 
 -- Moves that can be made one after the other, and what they leave.
 

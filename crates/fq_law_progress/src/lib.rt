@@ -11,8 +11,10 @@
 //! The laws hold whichever write fails, whichever workers stop, wherever reading ends and however
 //! many workers get a thread.
 //!
-//! Nothing ties the model to the code but a reading of both. The table of `docs/ARCHITECTURE.md`
-//! names the function that makes each move, and the text below it what the model takes for granted.
+//! The moves of a worker are in words of `fq_work`, in which the contracts of its code are too.
+//! Nothing else ties the model to the code but a reading of both. The table of
+//! `docs/ARCHITECTURE.md` names the function that makes each move, and the text below it what the
+//! model takes for granted.
 #![tactic(auto)]
 
 ghost use Rattle.fq_law_progress.specs.Progress.{AllIsWritten, MovesLeaveLess, NeverStuck, RunsAreShort};

@@ -1,2 +1,4 @@
 pub mod Replies
+pub mod Doing
+pub mod Waiting
 pub mod Work

@@ -1,5 +1,5 @@
 -- What a worker has done with its lanes.
-use Rattle.std.specs.Prelude.{◌≡◌, ◌⊎◌, ℕ, Bool, true, IsTrue, List, [], ◌∷◌, ◌++◌, Option, Some, None, IfOk}
+use Rattle.std.specs.Prelude.{◌≡◌, ◌⊎◌, ℕ, Bool, true, IsTrue, List, [], ◌∷◌, ◌++◌, Option, None, IfOk}
 use Rattle.fq_trim.specs.declared.step.Step.{Step}
 use Rattle.fq_pair.specs.Mates.{Mates}
 use Rattle.fq_report_pairs.specs.declared.tally.Tally.{Tally}
@@ -36,12 +36,7 @@ pub record IsWork (steps : List Step) (tally : Option Tally) (rx : History Numbe
 abbrev pub MayShut : Bool → ℕ → Type 0
 MayShut holds turns = (turns ≡ 0) ⊎ IsTrue holds
 
--- Intermediate states.
-
--- if there is no cause, the lane has come to its mark
-abbrev pub marked_by : Option Cause → Bool → Bool
-marked_by None marked = true
-marked_by (Some cause) marked = marked
+-- An intermediate state.
 
 -- so far the worker took some blocks, what it sent answers them, and it counted their pairs if
 -- there is no cause
@@ -49,12 +44,7 @@ pub record HasAnswered (steps : List Step) (cause : Option Cause) (tally tally_n
     (rx rx_new : History Numbered) (tx tx_new : History Reply) : Type 0 where
   pub took : List Numbered
   pub replies : List Reply
-  pub received : rx_new ≡ with_items rx took (marked_by cause rx.marked)
+  pub received : rx_new ≡ with_items rx took rx.marked
   pub sent : tx_new ≡ with_items tx replies tx.marked
   pub answers : Answers steps took replies cause
   pub counted : cause ≡ None → tally_new ≡ tally_with steps tally (pairs_of took)
-
--- the worker took some blocks, up to the mark
-pub record HasDrained (rx rx_new : History Numbered) : Type 0 where
-  pub took : List Numbered
-  pub received : rx_new ≡ with_items rx took true

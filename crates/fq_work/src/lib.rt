@@ -11,7 +11,9 @@
 mod ends;
 mod gate;
 mod reply;
+mod returns;
 mod trimming;
+mod waiting;
 mod worker;
 
 pub use ends::{WorkEnds, Worked};

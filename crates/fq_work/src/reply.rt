@@ -1,5 +1,7 @@
 //! What a worker replies.
 
+ghost use Rattle.std.specs.Prelude.{◌≡◌};
+
 use fq_report_pairs::Done;
 use fq_text::MemoryRefused;
 
@@ -19,4 +21,18 @@ pub enum Reply {
     Done(Done),
     /// They were not, and no later block gets a reply.
     Stop(Cause),
+}
+
+impl Reply {
+    ghost use Rattle.fq_work.specs.Waiting.{cause_of};
+
+    /// The cause, if this is a stop.
+    pub(crate) fn cause(&self) -> Option<Cause>
+        ensures { result ≡ cause_of self.now }
+    {
+        match self {
+            Reply::Done(_) => None,
+            Reply::Stop(cause) => Some(*cause),
+        }
+    }
 }

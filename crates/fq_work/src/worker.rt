@@ -1,18 +1,20 @@
 //! The worker of a threaded run.
 
-ghost use Rattle.std.specs.Prelude.{◌≡◌, ◌⊎◌, Some, None, Err, false, IsTrue, OnOk};
+ghost use Rattle.std.specs.Prelude.{◌≡◌, ◌⊎◌, Some, None, Ok, Err, false, IsTrue, OnOk};
 ghost use Rattle.std.specs.Arc.{arc_value};
-ghost use Rattle.fq_lane.specs.History.{with_item};
 ghost use Rattle.fq_report_pairs.specs.Results.{tally_with};
 ghost use Rattle.fq_work.specs.Replies.{done_of, reply_to};
-ghost use Rattle.fq_work.specs.Work.{IsWork, MayShut, HasAnswered, HasDrained};
+ghost use Rattle.fq_work.specs.Doing.{Reply as Word, does};
+ghost use Rattle.fq_work.specs.Waiting.{cause_of, cause_in, cause_after, doing_of, move_of, Follows};
+ghost use Rattle.fq_work.specs.Work.{IsWork, MayShut};
 
 use crate::ends::{WorkEnds, Worked};
 use crate::gate::Gate;
 use crate::reply::{Cause, Reply};
+use crate::returns::Returns;
 use crate::trimming::work_block;
+use crate::waiting::{Action, Event, perform};
 use fq_block::Block;
-use fq_lane::{Rx, Taken, Tx};
 use fq_report_pairs::{Done, Tally};
 use fq_text::MemoryRefused;
 use fq_trim::Steps;
@@ -48,27 +50,32 @@ pub fn work<R: Wait, G: Gate>(
     ensures gate { result.cause ≡ Some Cause.Gate
         → MayShut (G.holds (arc_value gate)) gate_turns }
 {
-    let mut ends = ends;
-    let making = Making { steps, gate_turns };
-    let cause = answer_blocks(alloc, rt, &mut ends, &making, &*gate);
-    if cause.is_some() {
-        drain(rt, &mut ends);
-    }
     let WorkEnds {
-        rx,
-        tx,
+        mut rx,
+        mut tx,
         blocks_back,
         texts_back,
-        tally,
+        mut tally,
     } = ends;
-    drop(blocks_back);
-    drop(texts_back);
-    Worked {
-        rx,
-        closing: tx.close(),
-        cause,
-        tally,
+    let mut returns = Returns::new(blocks_back, texts_back);
+    let making = Making { steps, gate_turns };
+    let mut action = Action::Take(None);
+    for _ in rt.forever() {
+        match perform(rt, &mut rx, &mut tx, action) {
+            Ok(event) => {
+                action = after(alloc, event, &mut returns, &mut tally, &making, &*gate);
+            }
+            Err(cause) => {
+                return Worked {
+                    rx,
+                    closing: tx.close(),
+                    cause,
+                    tally,
+                };
+            }
+        }
     }
+    unreachable!()
 }
 
 // What the worker does with each block, and how often it asks the gate about one.
@@ -78,75 +85,58 @@ struct Making {
     gate_turns: u64,
 }
 
-// Replies to blocks until the lane is closed, or a block can't be done.
-fn answer_blocks<R: Wait, G: Gate>(
+// What the worker does after a wait that ended so. After its stop it only gives blocks back.
+fn after<G: Gate>(
     alloc: Global,
-    rt: &R,
-    ends: &mut WorkEnds,
+    event: Event,
+    returns: &mut Returns,
+    tally: &mut Option<Tally>,
     making: &Making,
     gate: &G,
-) -> Option<Cause>
-    ensures answers { HasAnswered making.now.steps result
-        ends.old.tally ends.new.tally ends.old.rx ends.new.rx ends.old.tx ends.new.tx }
-    ensures gate { result ≡ Some Cause.Gate
-        → MayShut (G.holds gate.now) making.now.gate_turns }
+) -> Action
+    ensures follows { Follows making.now.steps event tally.old tally.new result }
+    // It is what a worker of the model does after the move that the wait was.
+    ensures does { (reply : Word) × (doing_of result ≡ does (move_of (Ok event) reply)) }
+    ensures gate { cause_in result ≡ Some Cause.Gate
+        → (cause_after (Ok event) ≡ Some Cause.Gate)
+        ⊎ MayShut (G.holds gate.now) making.now.gate_turns }
 {
-    for _ in rt.forever() {
-        let Some(block) = ends.rx.take_wait(rt) else {
-            return None;
-        };
-        if let Some(cause) = answer(alloc, rt, ends, block, making, gate) {
-            return Some(cause);
-        }
+    match event {
+        Event::Got(block, cause) => match cause {
+            None => Action::Put(answer(alloc, block, returns, tally, making, gate)),
+            Some(cause) => {
+                returns.give_back(block);
+                Action::Take(Some(cause))
+            }
+        },
+        Event::Sent(cause) => Action::Take(cause),
     }
-    unreachable!()
 }
 
-// Sends the reply to a block, and the block back. Returns the cause if the reply is a stop.
-fn answer<R: Wait, G: Gate>(
+// The reply to a block, which is given back. The loop over its pairs takes fewer instructions if
+// this is not inlined.
+#[inline(never)]
+fn answer<G: Gate>(
     alloc: Global,
-    rt: &R,
-    ends: &mut WorkEnds,
     block: Block,
+    returns: &mut Returns,
+    tally: &mut Option<Tally>,
     making: &Making,
     gate: &G,
-) -> Option<Cause>
-    ensures sent { ends.new.tx
-        ≡ with_item ends.old.tx (reply_to making.now.steps block result) }
-    ensures blocks { ends.new.rx ≡ ends.old.rx }
-    ensures tally { result ≡ None
-        → ends.new.tally ≡ tally_with making.now.steps ends.old.tally block.pairs }
-    ensures gate { result ≡ Some Cause.Gate
+) -> Reply
+    ensures reply { result ≡ reply_to making.now.steps block (cause_of result) }
+    ensures tally { cause_of result ≡ None
+        → tally.new ≡ tally_with making.now.steps tally.old block.pairs }
+    ensures gate { cause_of result ≡ Some Cause.Gate
         → MayShut (G.holds gate.now) making.now.gate_turns }
 {
-    let mut done = used_texts(alloc, &mut ends.texts_back);
-    let worked = work_on(&block, making, gate, &mut done, &mut ends.tally);
-    give_back(&mut ends.blocks_back, block);
+    let mut done = returns.used_texts(alloc);
+    let worked = work_on(&block, making, gate, &mut done, tally);
+    returns.give_back(block);
     match worked {
-        Ok(()) => {
-            ends.tx.put(rt, Reply::Done(done));
-            None
-        }
-        Err(cause) => {
-            ends.tx.put(rt, Reply::Stop(cause));
-            Some(cause)
-        }
+        Ok(()) => Reply::Done(done),
+        Err(cause) => Reply::Stop(cause),
     }
-}
-
-// Takes what is left in the lane, up to its mark.
-fn drain<R: Wait>(rt: &R, ends: &mut WorkEnds)
-    ensures drained { HasDrained ends.old.rx ends.new.rx }
-    ensures replies { ends.new.tx ≡ ends.old.tx }
-    ensures tally { ends.new.tally ≡ ends.old.tally }
-{
-    for _ in rt.forever() {
-        match ends.rx.take_wait(rt) {
-            Some(block) => give_back(&mut ends.blocks_back, block),
-            None => return,
-        }
-    }
-    unreachable!()
 }
 
 // Trims a block into these texts. Returns the cause if the gate or memory refused it.
@@ -181,18 +171,4 @@ fn passes<G: Gate>(gate: &G, number: u64, gate_turns: u64) -> bool
         }
     }
     false
-}
-
-// Returns used texts that came back, which are not emptied yet, or new ones.
-fn used_texts(alloc: Global, texts_back: &mut Rx<Done>) -> Done {
-    match texts_back.take() {
-        Taken::Item(done) => done,
-        Taken::Empty | Taken::Closed => Done::new(alloc, 0),
-    }
-}
-
-// Sends a block back for reuse if the lane has room, and drops it otherwise. Reuse only saves
-// memory, so the result of `offer` is ignored.
-fn give_back(blocks_back: &mut Tx<Block>, block: Block) {
-    let _ = blocks_back.offer(block);
 }
