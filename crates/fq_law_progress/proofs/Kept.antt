@@ -1,11 +1,10 @@
 -- What holds in every state that a run reaches.
-use Rattle.std.proofs.Common.{◌≡◌, ◌⊎◌, inr, ⊎_elim, ℕ, suc, ◌+◌, ◌<◌, ◌≤◌, Bool, true, false, Some, List, [], ◌∷◌, ◌++◌, length, drop, length-append, refl, sym, ap, ◌∙◌, arith}
+use Rattle.std.proofs.Common.{◌≡◌, ◌⊎◌, ⊎_elim, ℕ, ◌+◌, ◌<◌, ◌≤◌, Bool, true, false, List, [], ◌∷◌, ◌++◌, length, length-append, refl, ap, arith}
 use Rattle.fq_work.specs.Doing.{Reply, texts, stop, Doing, takes, answers, empties, left}
-use Rattle.fq_law_progress.specs.Model.{Run, IsRun, Seat, Dealer, awaits_start, deals, closes, Caller, begins, closes_start, writes, drains, awaits_dealer, awaits_workers, State, closed_lanes, changed, new_seat, start}
-use Rattle.fq_law_progress.specs.Moves.{Move, put_start, close_start, give_up, write, fail_to_write, hear_stop, find_mark, drop_reply, drop_mark, end_drain, join_dealer, join_worker, take_start, find_no_start, deal, end_reading, pass_start, close_blocks, take_block, put_reply, empty_block, leave, May, after, next_reply, with_block, with_block_taken, with_reply, with_reply_taken}
+use Rattle.fq_law_progress.specs.Model.{Run, IsRun, Seat, Dealer, awaits_start, closes, Caller, begins, closes_start, writes, drains, awaits_dealer, awaits_workers, State, closed_lanes, changed, start}
+use Rattle.fq_law_progress.specs.Moves.{Move, put_start, close_start, give_up, write, fail_to_write, hear_stop, find_mark, drop_reply, drop_mark, end_drain, join_dealer, join_worker, take_start, find_no_start, deal, end_reading, pass_start, close_blocks, take_block, put_reply, empty_block, leave, May, after, with_block_taken, with_reply}
 use Rattle.fq_law_progress.proofs.Seats.{changed_each, below_next}
-use Rattle.fq_law_progress.proofs.Turns.{turn_at, share, share_here, share_away, turn_below, share_less}
-use Rattle.fq_law_progress.proofs.Measure.{one_less, some_reply}
+use Rattle.fq_law_progress.proofs.Turns.{turn_at, share, turn_below, share_less}
 use Rattle.std.proofs.lemmas.Grind.{common_steps}
 
 -- Of one seat.
@@ -90,12 +89,6 @@ pub record IsKept (p : Run) (s : State) : Type 0 where
   pub marks : CloseAll p s.dealer s.seats
   pub phase : Phase p s s.caller
 
--- The start.
-
--- it holds at the start
-pub kept_start : (p : Run) → IsKept p start
-kept_start p = grind (arith, common_steps)
-
 -- Moves of a worker.
 
 hold_all : (p : Run) (c d j : ℕ) (q : Seat) (seats : ℕ → Seat) →
@@ -136,27 +129,7 @@ worker_moves p s j q kept within begun ends holds quiet stays = record {
   phase = worker_phase p s j q within begun holds quiet stays s.caller kept.phase;
 }
 
--- Moves of the dealer that change no lane of blocks but by a mark.
-
-dealer_phase : (p : Run) (s : State) (d : Dealer) → ((s ≡ start) → ⊥) → (d ≡ awaits_start → ⊥)
-    → (DealsNoMore s.dealer s.start_item → DealsNoMore d s.start_item)
-    → (s.dealer ≡ closes p.workers → d ≡ closes p.workers)
-    → (caller : Caller) → Phase p s caller → Phase p (record s { dealer = d }) caller
-dealer_phase p s d begun on no_more ended caller ph = grind (arith, common_steps)
-
-dealer_moves : (p : Run) (s : State) (d : Dealer) → IsKept p s → ((s ≡ start) → ⊥) →
-    (d ≡ awaits_start → ⊥)
-    → closed_lanes d ≤ p.workers → closed_lanes s.dealer ≤ closed_lanes d
-    → (DealsNoMore s.dealer s.start_item → DealsNoMore d s.start_item)
-    → (s.dealer ≡ closes p.workers → d ≡ closes p.workers)
-    → IsKept p (record s { dealer = d })
-dealer_moves p s d kept begun on few more no_more ended = grind (arith, common_steps, dealer_phase)
-
 -- What each move does to a seat.
-
-taken_holds : (c d : ℕ) (q : Seat) (r : Reply) → q.doing ≡ takes → 0 < q.blocks → Holds c d q →
-    Holds c d (with_block_taken q (answers r))
-taken_holds c d q r e some h = grind (arith, common_steps, in_seat, in_hand)
 
 stop_stays : (rs : List Reply) (r : Reply) → has_stop rs ≡ true → has_stop (rs ++ r ∷ []) ≡ true
 stop_stays [] r h = cc
@@ -170,20 +143,7 @@ stop_comes (stop ∷ rs) = refl
 
 answered_holds : (c d : ℕ) (q : Seat) (r : Reply) → q.doing ≡ answers r → Holds c d q →
     Holds c d (with_reply q r)
-answered_holds c d q r e h =
-    grind (arith, common_steps, stop_stays, stop_comes, length-append)
-
-emptied_holds : (c d : ℕ) (q : Seat) → q.doing ≡ empties → 0 < q.blocks → Holds c d q →
-    Holds c d (with_block_taken q empties)
-emptied_holds c d q e some h = grind (arith, common_steps)
-
--- a worker that waits for a block has none in hand
-pub in_hand_none : (x : Doing) → (x ≡ takes) ⊎ (x ≡ empties) → in_hand x ≡ 0
-in_hand_none x e = grind (arith, common_steps)
-
-left_holds : (c d : ℕ) (q : Seat) → (q.doing ≡ takes) ⊎ (q.doing ≡ empties) → Holds c d q →
-    Holds c d (record q { doing = left })
-left_holds c d q e h = grind (arith, common_steps, in_seat, in_hand_none)
+answered_holds c d q r e h = grind (arith, common_steps, stop_stays, stop_comes, length-append)
 
 -- a worker that has neither left nor leaves now
 working_closes : (k i : ℕ) (q q' : Seat) → (q.doing ≡ left → ⊥) → (q'.doing ≡ left → ⊥) →
@@ -194,110 +154,29 @@ answered_closes : (k i : ℕ) (q : Seat) (r : Reply) → q.doing ≡ answers r �
     Closes k i (with_reply q r)
 answered_closes k i q r e h = grind (arith, common_steps, working_closes)
 
--- Moves of the dealer and the collector.
-
-dealt_holds : (c d : ℕ) (q : Seat) → Holds c d q → Holds c (suc d) (with_block q)
-dealt_holds c d q h = grind (arith, common_steps)
-
-stop_after : (rs : List Reply) → next_reply rs ≡ Some texts → has_stop (drop 1 rs) ≡ has_stop rs
-stop_after rs e = grind (arith, common_steps)
-
-wrote_holds : (c d : ℕ) (q : Seat) → next_reply q.replies ≡ Some texts → Holds c d q →
-    Holds (suc c) d (with_reply_taken q)
-wrote_holds c d q e h = grind (arith, common_steps, one_less, some_reply, stop_after)
-
-share_next : (workers n t : ℕ) → t ≡ turn_at workers n →
-    share workers (suc n) t ≡ suc (share workers n t)
-share_next workers n t e = grind (arith, common_steps, share, share_here)
-
-share_same : (workers n t i : ℕ) → t ≡ turn_at workers n → (i ≡ t → ⊥) →
-    share workers (suc n) i ≡ share workers n i
-share_same workers n t i e other = share_away workers n i (λ x. other (x ∙ sym e))
-
-deals_all : (p : Run) (s : State) → s.deal_turn ≡ turn_at p.workers s.dealt →
-    HoldAll p s.written s.dealt s.seats → HoldAll p s.written (suc s.dealt)
-    (changed s.deal_turn (with_block (s.seats s.deal_turn)) s.seats)
-deals_all p s turn all =
-    grind (arith, common_steps, changed_each, share, share_next, dealt_holds, share_same)
-
-writes_all : (p : Run) (s : State) → s.turn ≡ turn_at p.workers s.written →
-    next_reply (s.seats s.turn).replies ≡ Some texts → HoldAll p s.written s.dealt s.seats →
-    HoldAll p (suc s.written) s.dealt (changed s.turn (with_reply_taken (s.seats s.turn)) s.seats)
-writes_all p s turn next all =
-    grind (arith, common_steps, changed_each, share, share_next, wrote_holds, share_same)
-
-no_more_deals : (d : Dealer) (item : Bool) → d ≡ deals → DealsNoMore d item → ⊥
-no_more_deals d item e h = grind (arith, common_steps)
-
-deal_phase : (p : Run) (s : State) → s.dealer ≡ deals → s.deal_turn ≡ turn_at p.workers s.dealt →
-    (caller : Caller) → Phase p s caller → Phase p (after p s deal) caller
-deal_phase p s e turn caller ph = grind (arith, common_steps, deals_all, no_more_deals)
-
--- a seat with a reply taken, or with its mark taken
-taken_closes : (k i : ℕ) (q : Seat) → Closes k i q → Closes k i (with_reply_taken q)
-taken_closes k i q h = record { over = h.over; told = h.told }
-
-marked_closes : (k i : ℕ) (q : Seat) → q.doing ≡ left → Closes k i q →
-    Closes k i (record q { marked = true })
-marked_closes k i q e h = record { over = h.over; told = λ x. e }
-
-with_block_closes : (k i : ℕ) (q : Seat) → Closes k i q → Closes k i (with_block q)
-with_block_closes k i q h = record { over = h.over; told = h.told }
-
-close_all : (p : Run) (d : Dealer) (seats : ℕ → Seat) (j : ℕ) (q : Seat) → CloseAll p d seats →
-    (Closes (closed_lanes d) j (seats j) → Closes (closed_lanes d) j q) →
-    CloseAll p d (changed j q seats)
-close_all p d seats j q all here = grind (arith, common_steps, changed_each)
-
-closed_by : (d : Dealer) → 0 < closed_lanes d → (k : ℕ) × (d ≡ closes k)
-closed_by d h = grind (arith, common_steps)
-
-start_holds : Holds 0 0 new_seat
-start_holds = record { most = omega arith; all = inr (omega arith); stopped = λ e. cc }
-
-start_share : (workers i : ℕ) → Holds (share workers 0 i) (share workers 0 i) new_seat
-start_share workers i = start_holds
-
--- Moves of the calling thread: those that change no seat, and those that take from one.
-
-caller_moves : (p : Run) (s : State) (c : Caller) (item mark : Bool) → IsKept p s →
-    Phase p (record s { caller = c; start_item = item; start_mark = mark }) c →
-    IsKept p (record s { caller = c; start_item = item; start_mark = mark })
-caller_moves p s c item mark kept ph = grind (arith, common_steps)
-
-takes_from : (p : Run) (s : State) (c : Caller) (j : ℕ) (q : Seat) → IsKept p s →
-    (Closes (closed_lanes s.dealer) j (s.seats j) → Closes (closed_lanes s.dealer) j q) →
-    Phase p (record s { caller = c; seats = changed j q s.seats }) c →
-    IsKept p (record s { caller = c; seats = changed j q s.seats })
-takes_from p s c j q kept ends ph = grind (arith, common_steps, close_all)
-
 -- All moves.
 
 -- and it still holds after every move that can be made
 pub keeps : (p : Run) (s : State) (m : Move) → IsRun p → IsKept p s → May p s m →
     IsKept p (after p s m)
-keeps p s put_start run kept may =
-    grind (arith, common_steps, Phase, caller_moves, HoldAll, start_share)
-keeps p s give_up run kept may = grind (arith, common_steps, Phase, caller_moves, AreQuiet)
-keeps p s close_start run kept may = grind (arith, common_steps, caller_moves, true)
-keeps p s write run kept may =
-    grind (arith, common_steps, Phase, close_all, taken_closes, writes_all)
-keeps p s fail_to_write run kept may = grind (arith, common_steps, Phase, takes_from, taken_closes)
-keeps p s hear_stop run kept may = grind (arith, common_steps, Phase, takes_from, taken_closes)
-keeps p s find_mark run kept may = grind (arith, common_steps, Phase, takes_from, marked_closes)
-keeps p s (drop_reply j) run kept may = grind (arith, common_steps, takes_from, taken_closes, Phase)
-keeps p s (drop_mark j) run kept may = grind (arith, common_steps, takes_from, marked_closes, Phase)
-keeps p s end_drain run kept may =
-    grind (arith, common_steps, Phase, caller_moves, closed_by, kept.marks 0, may.1 0)
-keeps p s join_dealer run kept may = grind (arith, common_steps, Phase, caller_moves)
-keeps p s (join_worker k) run kept may =
-    grind (arith, common_steps, Phase, caller_moves, below_next)
-keeps p s take_start run kept may = grind (arith, common_steps, dealer_moves)
-keeps p s find_no_start run kept may = grind (arith, common_steps, dealer_moves)
-keeps p s deal run kept may = grind (arith, common_steps, close_all, with_block_closes, deal_phase)
-keeps p s end_reading run kept may = grind (arith, common_steps, dealer_moves, no_more_deals)
-keeps p s pass_start run kept may = grind (arith, common_steps, dealer_moves)
-keeps p s (close_blocks k) run kept may = grind (arith, common_steps, dealer_moves)
+keeps p s put_start run kept may = grind (arith, common_steps, Phase, HoldAll)
+keeps p s give_up run kept may = grind (arith, common_steps, Phase, AreQuiet)
+keeps p s close_start run kept may = grind (arith, common_steps, true)
+keeps p s write run kept may = grind (arith, common_steps, Phase)
+keeps p s fail_to_write run kept may = grind (arith, common_steps, Phase)
+keeps p s hear_stop run kept may = grind (arith, common_steps, Phase)
+keeps p s find_mark run kept may = grind (arith, common_steps, Phase)
+keeps p s (drop_reply j) run kept may = grind (arith, common_steps, Phase)
+keeps p s (drop_mark j) run kept may = grind (arith, common_steps, Phase)
+keeps p s end_drain run kept may = grind (arith, common_steps, Phase, kept.marks 0, may.1 0)
+keeps p s join_dealer run kept may = grind (arith, common_steps, Phase)
+keeps p s (join_worker k) run kept may = grind (arith, common_steps, Phase, below_next)
+keeps p s take_start run kept may = grind (arith, common_steps)
+keeps p s find_no_start run kept may = grind (arith, common_steps)
+keeps p s deal run kept may = grind (arith, common_steps)
+keeps p s end_reading run kept may = grind (arith, common_steps)
+keeps p s pass_start run kept may = grind (arith, common_steps)
+keeps p s (close_blocks k) run kept may = grind (arith, common_steps)
 keeps p s (take_block j r) run kept may =
     let q = s.seats j in
     grind (
@@ -305,7 +184,6 @@ keeps p s (take_block j r) run kept may =
       common_steps,
       worker_moves p s j (with_block_taken q (answers r)) kept,
       working_closes (closed_lanes s.dealer) j q,
-      taken_holds,
     )
 keeps p s (put_reply j r) run kept may =
     let q = s.seats j in
@@ -322,7 +200,6 @@ keeps p s (empty_block j) run kept may =
       common_steps,
       worker_moves p s j (with_block_taken q empties) kept,
       working_closes (closed_lanes s.dealer) j q,
-      emptied_holds,
     )
 keeps p s (leave j) run kept may =
     let q = s.seats j in
@@ -330,7 +207,6 @@ keeps p s (leave j) run kept may =
       arith,
       common_steps,
       worker_moves p s j (record q { doing = left }) kept,
-      left_holds,
     )
 
 -- If all that was dealt to the worker in turn was written, so was all that was dealt.

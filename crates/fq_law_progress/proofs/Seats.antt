@@ -1,13 +1,9 @@
 -- Seats of which one is changed.
-use Rattle.std.proofs.Common.{◌≡◌, ℕ, zero, suc, ◌+◌, ◌<◌, ◌≤◌, Bool, true, false, cond, ◌==◌, eqb-true, refl, ap, arith, below_more}
-use Rattle.std.proofs.lemmas.Bool.{eqb-false, ne_eqb}
-use Rattle.std.proofs.lemmas.Bool.Decides.{nat_tests}
+use Rattle.std.proofs.Common.{◌≡◌, ℕ, zero, suc, ◌+◌, ◌<◌, ◌≤◌, Bool, true, false, cond, ◌==◌, eqb-true, refl, arith, below_more}
+use Rattle.std.proofs.lemmas.Bool.{eqb-false}
 use Rattle.fq_law_progress.specs.Model.{Seat, changed}
 use Rattle.fq_law_progress.specs.Progress.{seat_left, seats_left}
 use Rattle.std.proofs.lemmas.Grind.{common_steps}
-
-same_number : (j : ℕ) → (j == j) ≡ true
-same_number j = grind (arith, nat_tests)
 
 -- at each number it is the new seat, or the old one at another number
 each_by : (P : ℕ → Seat → Type 0) (j : ℕ) (q : Seat) (seats : ℕ → Seat) (i : ℕ) (b : Bool) →
@@ -19,27 +15,18 @@ pub changed_each : (P : ℕ → Seat → Type 0) (j : ℕ) (q : Seat) (seats : �
     ((i : ℕ) → (i ≡ j → ⊥) → P i (seats i)) → (i : ℕ) → P i (changed j q seats i)
 changed_each P j q seats here away i = each_by P j q seats i (i == j) refl here (away i)
 
-changed_here : (j : ℕ) (q : Seat) (seats : ℕ → Seat) → changed j q seats j ≡ q
-changed_here j q seats = ap (λ b. cond b q (seats j)) (same_number j)
-
-changed_away : (j : ℕ) (q : Seat) (seats : ℕ → Seat) (i : ℕ) → (i ≡ j → ⊥) →
-    changed j q seats i ≡ seats i
-changed_away j q seats i other = ap (λ b. cond b q (seats i)) (ne_eqb i j other)
-
 left_outside : (n j : ℕ) (q : Seat) (seats : ℕ → Seat) → n ≤ j →
     seats_left n (changed j q seats) ≡ seats_left n seats
 left_outside zero j q seats h = refl
-left_outside (suc n) j q seats h =
-    grind (arith, common_steps, changed_away, left_outside n j q seats)
+left_outside (suc n) j q seats h = grind (arith, common_steps, left_outside n j q seats)
 
 left_by : (n j : ℕ) (q : Seat) (seats : ℕ → Seat) → j < suc n →
     ((j < n) → seats_left n (changed j q seats) + seat_left (seats j) ≡ seats_left n
     seats + seat_left q)
     → (b : Bool) → (n == j) ≡ b → seats_left (suc n) (changed j q seats) + seat_left (seats j)
     ≡ seats_left (suc n) seats + seat_left q
-left_by n j q seats h below true e =
-    grind (arith, common_steps, eqb-true, left_outside, changed_here)
-left_by n j q seats h below false e = grind (arith, common_steps, eqb-false, changed_away)
+left_by n j q seats h below true e = grind (arith, common_steps, eqb-true, left_outside)
+left_by n j q seats h below false e = grind (arith, common_steps, eqb-false)
 
 -- a seat that is changed changes the sum
 pub left_changed : (n j : ℕ) (q : Seat) (seats : ℕ → Seat) → j < n →

@@ -25,18 +25,10 @@ turn_below workers n some = grind (arith, common_steps)
 bit_same : (j : ℕ) → bit (j == j) ≡ 1
 bit_same j = grind (arith, nat_tests)
 
-bit_other : (i j : ℕ) → (i ≡ j → ⊥) → bit (i == j) ≡ 0
-bit_other i j other = grind (arith, nat_tests)
-
 -- the worker of the next block has one more in its share
 pub share_here : (workers n : ℕ) → share workers (suc n) (turn_at workers n) ≡ suc
     (share workers n (turn_at workers n))
 share_here workers n = omega (arith, bit_same (turn_at workers n))
-
--- any other worker has no more in its share
-pub share_away : (workers n j : ℕ) → (j ≡ turn_at workers n → ⊥) →
-    share workers (suc n) j ≡ share workers n j
-share_away workers n j other = omega (arith, bit_other j (turn_at workers n) other)
 
 grows : (workers m n j : ℕ) → m ≤ n → share workers m j ≤ share workers n j
 grows workers m n j h = le_ind (λ k. share workers m j ≤ share workers k j) (omega arith)

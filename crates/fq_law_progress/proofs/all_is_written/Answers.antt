@@ -1,10 +1,9 @@
-use Rattle.std.proofs.Common.{Bool, true, false, ◌≡◌, ℕ, ◌≤◌, ◌⊎◌, ◌<◌, refl, arith, List, [], ◌∷◌, drop, ◌++◌, Some}
+use Rattle.std.proofs.Common.{Bool, true, false, ◌≡◌, ℕ, ◌≤◌, ◌⊎◌, ◌<◌, refl, arith, List, [], ◌∷◌, ◌++◌}
 use Rattle.fq_work.specs.Doing.{texts, stop, Doing, takes, answers, empties, left, Reply}
-use Rattle.fq_law_progress.specs.Model.{Seat, Run, Dealer, awaits_start, deals, passes_start, closes, Caller, begins, closes_start, writes, drains, awaits_dealer, awaits_workers, State, start, changed, closed_lanes, IsRun}
-use Rattle.fq_law_progress.specs.Moves.{with_reply_taken, with_reply, next_reply, find_mark, May, Move, put_start, close_start, give_up, write, fail_to_write, hear_stop, drop_reply, drop_mark, end_drain, join_dealer, join_worker, take_start, find_no_start, deal, end_reading, pass_start, close_blocks, take_block, put_reply, empty_block, leave, after, is_failure, AreMoves, after_all}
+use Rattle.fq_law_progress.specs.Model.{Seat, Run, Dealer, awaits_start, deals, passes_start, closes, Caller, begins, closes_start, writes, drains, awaits_dealer, awaits_workers, State, changed, IsRun}
+use Rattle.fq_law_progress.specs.Moves.{with_reply_taken, with_reply, find_mark, May, Move, put_start, close_start, give_up, write, fail_to_write, hear_stop, drop_reply, drop_mark, end_drain, join_dealer, join_worker, take_start, find_no_start, deal, end_reading, pass_start, close_blocks, take_block, put_reply, empty_block, leave, after, is_failure, AreMoves, after_all}
 use Rattle.fq_law_progress.specs.Progress.{HaveNoFailure, AllIsWritten}
-use Rattle.fq_law_progress.proofs.Kept.{has_stop, Phase, IsKept, in_hand, in_seat, keeps, kept_start, all_written}
-use Rattle.fq_law_progress.proofs.Seats.{changed_each}
+use Rattle.fq_law_progress.proofs.Kept.{has_stop, Phase, IsKept, in_hand, in_seat, keeps, all_written}
 use Rattle.fq_law_progress.proofs.Turns.{share}
 use Rattle.fq_law_progress.proofs.all_is_written.Goals as goal
 use Rattle.std.proofs.lemmas.Grind.{common_steps}
@@ -49,25 +48,13 @@ record IsSound (p : Run) (s : State) : Type 0 where
   pub dealt : Dealt p s.dealer s.dealt
   pub written : Written p s.caller s.written
 
-sound_start : (p : Run) → IsSound p start
-sound_start p = grind (arith, common_steps)
-
--- one seat changes
-calm_all : (p : Run) (j : ℕ) (q : Seat) (seats : ℕ → Seat) →
-    ((i : ℕ) → i < p.workers → IsCalm (seats i)) → (IsCalm (seats j) → IsCalm q) → (i : ℕ) →
-    i < p.workers → IsCalm (changed j q seats i)
-calm_all p j q seats all here = grind (arith, common_steps, changed_each)
-
-no_stop_after : (rs : List Reply) → has_stop rs ≡ false → has_stop (drop 1 rs) ≡ false
-no_stop_after rs e = grind (arith, common_steps)
-
 no_stop_more : (rs : List Reply) → has_stop rs ≡ false → has_stop (rs ++ texts ∷ []) ≡ false
 no_stop_more [] e = refl
 no_stop_more (texts ∷ rs) e = no_stop_more rs e
 no_stop_more (stop ∷ rs) e = cc
 
 calm_taken : (q : Seat) → IsCalm q → IsCalm (with_reply_taken q)
-calm_taken q c = grind (arith, common_steps, no_stop_after)
+calm_taken q c = grind (arith, common_steps)
 
 calm_marked : (q : Seat) → IsCalm q → IsCalm (record q { marked = true })
 calm_marked q c = record { doing = c.doing; replies = c.replies; empty = c.empty }
@@ -75,51 +62,37 @@ calm_marked q c = record { doing = c.doing; replies = c.replies; empty = c.empty
 calm_answered : (q : Seat) (r : Reply) → q.doing ≡ answers r → IsCalm q → IsCalm (with_reply q r)
 calm_answered q r e c = grind (arith, common_steps, no_stop_more)
 
-not_next : (rs : List Reply) → has_stop rs ≡ false → next_reply rs ≡ Some stop → ⊥
-not_next rs e h = grind (arith, common_steps)
-
--- a lane of blocks is closed only once all were dealt
-all_dealt : (p : Run) (d : Dealer) (dealt i : ℕ) → Dealt p d dealt → i < closed_lanes d →
-    dealt ≡ p.blocks
-all_dealt p d dealt i h within = grind (arith, common_steps)
-
 -- at the mark in turn all blocks were written
 written_at_mark : (p : Run) (s : State) → IsRun p → IsKept p s → IsSound p s → May p s find_mark →
     s.written ≡ p.blocks
 written_at_mark p s run kept sound may =
-    grind (arith, common_steps, Phase, in_seat, in_hand, share, all_written, all_dealt)
+    grind (arith, common_steps, Phase, in_seat, in_hand, share, all_written)
 
 -- the same caller and dealer, and one seat changed
 sound_at : (p : Run) (s : State) (j : ℕ) (q : Seat) → IsSound p s →
     (IsCalm (s.seats j) → IsCalm q) → IsSound p (record s { seats = changed j q s.seats })
-sound_at p s j q sound here = grind (arith, common_steps, calm_all)
-
--- the start was put, where the caller isn't at its beginning
-item_put : (s : State) (c : Caller) → s.caller ≡ c → (c ≡ begins → ⊥) →
-    (s.caller ≡ begins) ⊎ (s.start_item ≡ true) → s.start_item ≡ true
-item_put s c e other begun = grind (arith, common_steps)
+sound_at p s j q sound here = grind (arith, common_steps)
 
 stays_sound : (p : Run) (s : State) (m : Move) → IsRun p → p.started ≡ p.workers → IsKept p s →
     IsSound p s → May p s m → is_failure m ≡ false → IsSound p (after p s m)
 stays_sound p s put_start run all kept sound may safe = grind (arith, common_steps)
 stays_sound p s give_up run all kept sound may safe = absurd (omega (arith, may.1, all))
-stays_sound p s close_start run all kept sound may safe = grind (arith, common_steps, item_put)
-stays_sound p s write run all kept sound may safe =
-    grind (arith, common_steps, calm_all, calm_taken)
+stays_sound p s close_start run all kept sound may safe = grind (arith, common_steps)
+stays_sound p s write run all kept sound may safe = grind (arith, common_steps, calm_taken)
 stays_sound p s fail_to_write run all kept sound may safe = absurd cc
-stays_sound p s hear_stop run all kept sound may safe = grind (arith, common_steps, not_next)
+stays_sound p s hear_stop run all kept sound may safe = grind (arith, common_steps)
 stays_sound p s find_mark run all kept sound may safe =
-    grind (arith, common_steps, calm_all, calm_marked, item_put, written_at_mark)
+    grind (arith, common_steps, calm_marked, written_at_mark)
 stays_sound p s (drop_reply j) run all kept sound may safe =
     sound_at p s j (with_reply_taken (s.seats j)) sound (calm_taken (s.seats j))
 stays_sound p s (drop_mark j) run all kept sound may safe =
     sound_at p s j (record (s.seats j) { marked = true }) sound (calm_marked (s.seats j))
-stays_sound p s end_drain run all kept sound may safe = grind (arith, common_steps, item_put)
-stays_sound p s join_dealer run all kept sound may safe = grind (arith, common_steps, item_put)
-stays_sound p s (join_worker k) run all kept sound may safe = grind (arith, common_steps, item_put)
+stays_sound p s end_drain run all kept sound may safe = grind (arith, common_steps)
+stays_sound p s join_dealer run all kept sound may safe = grind (arith, common_steps)
+stays_sound p s (join_worker k) run all kept sound may safe = grind (arith, common_steps)
 stays_sound p s take_start run all kept sound may safe = grind (arith, common_steps)
 stays_sound p s find_no_start run all kept sound may safe = grind (arith, common_steps, Phase)
-stays_sound p s deal run all kept sound may safe = grind (arith, common_steps, calm_all)
+stays_sound p s deal run all kept sound may safe = grind (arith, common_steps)
 stays_sound p s end_reading run all kept sound may safe = grind (arith, common_steps)
 stays_sound p s pass_start run all kept sound may safe = grind (arith, common_steps)
 stays_sound p s (close_blocks k) run all kept sound may safe = grind (arith, common_steps)
@@ -143,8 +116,7 @@ ended_from p s (m ∷ ms) run all kept sound are none =
 
 -- without a failure, and with all threads, a run that has ended has written every block
 writes_all_blocks : AllIsWritten
-writes_all_blocks p moves run all are none ended =
-    grind (arith, common_steps, ended_from, kept_start, sound_start, Written)
+writes_all_blocks p moves run all are none ended = grind (arith, common_steps, ended_from, Written)
 
 -- without a failure, and with all threads, a run that has ended has written every block
 pub returns : goal.returns

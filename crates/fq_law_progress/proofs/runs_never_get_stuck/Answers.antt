@@ -4,7 +4,7 @@ use Rattle.fq_work.specs.Doing.{texts, stop, takes, empties, left}
 use Rattle.fq_law_progress.specs.Model.{Run, IsRun, Seat, deals, Caller, begins, closes_start, writes, drains, awaits_dealer, awaits_workers, State, closed_lanes}
 use Rattle.fq_law_progress.specs.Moves.{Move, put_start, close_start, give_up, write, hear_stop, find_mark, drop_reply, drop_mark, end_drain, join_dealer, join_worker, take_start, find_no_start, deal, end_reading, pass_start, close_blocks, take_block, put_reply, empty_block, leave, May, after, AreMoves, after_all, is_failure}
 use Rattle.fq_law_progress.specs.Progress.{HasEnded, CanGoOn, NeverStuck}
-use Rattle.fq_law_progress.proofs.Kept.{in_hand_none, has_stop, in_seat, IsQuiet, Phase, IsKept, keeps, kept_start, all_written}
+use Rattle.fq_law_progress.proofs.Kept.{has_stop, in_seat, IsQuiet, Phase, IsKept, keeps, all_written}
 use Rattle.fq_law_progress.proofs.Seats.{below_next}
 use Rattle.fq_law_progress.proofs.Turns.{turn_at, turn_below}
 use Rattle.fq_law_progress.proofs.runs_never_get_stuck.Goals as goal
@@ -56,7 +56,7 @@ starves : (p : Run) (s : State) → IsRun p → IsKept p s → s.turn < p.worker
     (s.seats s.turn).replies ≡ [] → ((s.seats s.turn).doing ≡ takes) ⊎ ((s.seats s.turn).doing
     ≡ empties) → (s.seats s.turn).blocks ≡ 0 → p.depth ≤ (s.seats s.deal_turn).blocks → ⊥
 starves p s run kept here ph is doing none full =
-    grind (arith, common_steps, in_seat, in_hand_none, has_stop, turn_at, all_written)
+    grind (arith, common_steps, in_seat, has_stop, turn_at, all_written)
 
 unmarked_by : (n : ℕ) (seats : ℕ → Seat) (all : (j : ℕ) → j < n → (seats j).marked ≡ true) →
     (b : Bool) → (seats n).marked ≡ b
@@ -136,8 +136,7 @@ kept_all p s (m ∷ ms) run kept are = kept_all p (after p s m) ms run (keeps p 
 
 -- every state that a run can reach is its end, or some thread has a move
 never_stuck : NeverStuck
-never_stuck p moves run are =
-    grind (arith, common_steps, kept_all, kept_start, by_caller, turn_below)
+never_stuck p moves run are = grind (arith, common_steps, kept_all, by_caller, turn_below)
 
 -- every state that a run can reach is its end, or some thread has a move
 pub returns : goal.returns
