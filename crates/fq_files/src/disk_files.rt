@@ -1,6 +1,6 @@
 //! Files by name, over a disk.
 
-ghost use Rattle.std.specs.Prelude.{◌≡◌};
+ghost use Rattle.std.specs.Prelude.{◌≡◌, true};
 
 use crate::device::major_of;
 use crate::disk::{Disk, Facts, Kind, Opened, Written};
@@ -344,7 +344,9 @@ where
         self.finds_input(name)
     }
 
-    fn sync_always(&mut self) {
+    fn sync_always(&mut self)
+        ensures { self.new ≡ record self.old { syncs_always = true } }
+    {
         self.syncs_always = true;
     }
 
