@@ -85,6 +85,13 @@ impl<D: Disk> DiskFiles<D> {
         }
     }
 
+    /// The disk, whose files are no longer inputs or outputs.
+    pub fn into_disk(self) -> D
+        ensures { result ≡ self.disk }
+    {
+        self.disk
+    }
+
     /// Keeps the regular file that this name leads to from becoming an output, since something else
     /// writes to it. Does nothing if the name leads to no regular file.
     pub fn keep(&mut self, name: &str) -> Result<(), OutOfMemory>

@@ -22,7 +22,8 @@ use std::alloc::Global;
 use std::sync::Wait;
 use std::thread::Threads;
 
-const NAMES: [&str; 9] = ["f", "r", "i", "fp", "fu", "rp", "ru", "log", "report"];
+/// The names of files in rows.
+pub const NAMES: [&str; 9] = ["f", "r", "i", "fp", "fu", "rp", "ru", "log", "report"];
 
 // What goes wrong with a file.
 #[derive(Clone, Copy)]
@@ -166,22 +167,18 @@ fn outlet(alloc: Global, fail_at: u64) -> ScriptOutlet
     ScriptOutlet::new(alloc, 1000, fail_at, false)
 }
 
-// Calls the program, and puts what it printed and its status. If no file causes trouble, the
-// program gets plain `MemoryFiles`.
-fn put_call<R: Threads + Wait + Copy + Send + 'static>(
+/// Calls the program on files, and puts what it printed and its status.
+pub fn put_call<R: Threads + Wait + Copy + Send + 'static, T: Files>(
     rt: &R,
     alloc: Global,
     words: &[&str],
-    files: &mut TroubledFiles<'_>,
+    files: &mut T,
     print_fails_at: u64,
     answers: &mut Answers,
 ) -> Result<()> {
     let mut out = outlet(alloc, print_fails_at);
     let mut err = outlet(alloc, 0);
-    let status = match files.trouble {
-        Trouble::Nothing => call(rt, alloc, words, &mut files.held, &mut out, &mut err),
-        _ => call(rt, alloc, words, files, &mut out, &mut err),
-    };
+    let status = call(rt, alloc, words, files, &mut out, &mut err);
     answers.put("status", format!(in alloc; "{status}")?.as_bytes())?;
     put_printed(answers, out.bytes(), err.bytes())
 }
@@ -239,6 +236,10 @@ pub fn answer<R: Threads + Wait + Copy + Send + 'static>(
         alloc,
     };
     let print_fails_at = given.number("print fails at", 0)?;
-    put_call(rt, alloc, &words, &mut files, print_fails_at, answers)?;
+    // If no file causes trouble, the program gets plain `MemoryFiles`.
+    match files.trouble {
+        Trouble::Nothing => put_call(rt, alloc, &words, &mut files.held, print_fails_at, answers)?,
+        _ => put_call(rt, alloc, &words, &mut files, print_fails_at, answers)?,
+    }
     put_files(&files.held, answers)
 }

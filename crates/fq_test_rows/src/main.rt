@@ -7,6 +7,7 @@
 #![tactic(auto)]
 
 mod call;
+mod disk;
 mod judge;
 mod outcomes;
 mod run;
@@ -36,6 +37,7 @@ fn answer<R: Threads + Wait + Print + AllocGlobal + Files + Copy + Send + 'stati
     let mut answers = Answers::new(alloc);
     match given.text("do")? {
         "call" => call::answer(rt, alloc, given, &mut answers)?,
+        "disk" => disk::answer(rt, alloc, given, &mut answers)?,
         "outcomes" => outcomes::answer(alloc, given, &mut answers)?,
         "run" => run::answer(rt, alloc, given, &mut answers)?,
         word => fq_test_worked::answer(rt, alloc, word, given, &mut answers)?,
