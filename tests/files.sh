@@ -244,7 +244,10 @@ exec 3<> forward 4<> reverse
 cat f >&3
 head -n 4 r >&4
 for _ in {1..200}; do [ -s rp ] || sleep 0.05; done
-{ kill -KILL "$pid"; wait "$pid"; } 2> err
+{
+  kill -KILL "$pid"
+  wait "$pid"
+} 2> err
 exec 3>&- 4>&-
 same fp '@p1/1\nGT\n+\nII\n'
 same fu ''
