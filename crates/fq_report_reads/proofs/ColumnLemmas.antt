@@ -1,6 +1,6 @@
 -- Facts that name the columns one by one. Those of the rows of one column are in PositionLemmas and
 -- FewLemmas.
-use Rattle.std.proofs.Common.{◌≡◌, ℕ, ◌+◌, ◌*◌, ◌<◌, ◌≤◌, Bool, true, nat_le, List, [], ◌∷◌, ◌++◌, length, take, take-add, drop, map, get_or, replicate, min, refl, ap, ap₂, sym, ◌∙◌, arith, max}
+use Rattle.std.proofs.Common.{◌≡◌, ℕ, ◌+◌, ◌*◌, ◌<◌, ◌≤◌, Bool, true, nat_le, List, [], ◌∷◌, ◌++◌, length, take, take-add, drop, map, get_or, min, ap, ap₂, sym, ◌∙◌, arith, max}
 use Rattle.std.specs.List.{All, list_all}
 use Rattle.std.proofs.lemmas.List.{drop_more, length-drop, length-take-le, length-map, map-append}
 use Rattle.fq_text.specs.declared.encoding.Encoding.{Encoding}
@@ -15,7 +15,7 @@ use Rattle.fq_report_reads.proofs.RowLemmas.{plus_none}
 use Rattle.fq_report_reads.specs.Counting.{AtMost, IsFew, by_position, lane_score, one_if, placed}
 use Rattle.fq_report_reads.specs.Columns.{AreFew, columns_from, columns_of, columns_plus, columns_tables, empty_rows, first_rows, lanes_at, no_columns, one_in}
 use Rattle.fq_report_reads.proofs.PositionLemmas.{one_if_small, ones_joined, placed_joined, placed_none, placed_one, rows_assoc, rows_comm, scores_small}
-use Rattle.fq_report_reads.proofs.FewLemmas.{lanes_bases, lanes_scores, mapped_at_most, placed_short, row_behind, row_cut, row_more, row_nothing, row_weaker, scores_at_most, zeros_in_front, zeros_mapped}
+use Rattle.fq_report_reads.proofs.FewLemmas.{lanes_bases, lanes_scores, mapped_at_most, placed_short, row_cut, row_more, row_nothing, row_weaker, scores_at_most}
 use Rattle.std.proofs.lemmas.Grind.{common_steps}
 
 -- columns are the same if each of them is
@@ -134,37 +134,6 @@ pub lanes_are_columns : (at : ℕ) (e : Encoding) (s q : List ℕ) → list_all 
     lanes_at at e s q ≡ columns_from at e s q
 lanes_are_columns at e s q all same near =
     grind (arith, common_steps, lanes_scores, placed_short, length-map, columns_same, lanes_bases)
-
--- lanes after k zeros are the same lanes, k places further on
-pub lanes_moved : (at k : ℕ) (e : Encoding) (s q : List ℕ) →
-    lanes_at at e (replicate k 0 ++ s) (replicate k 0 ++ q) ≡ lanes_at (at + k) e s q
-lanes_moved at k e s q =
-    grind (arith, common_steps, zeros_in_front, map-append, zeros_mapped, columns_same)
-
--- zeros after the lanes of a vector add nothing to the rows of a few reads
-pub lanes_behind : (x : Columns) (rows len reads at k : ℕ) (e : Encoding) (s q : List ℕ) →
-    AreFew rows len reads x → reads ≤ 254 → length q ≡ length s → at + (length s + k) ≤ rows →
-    columns_plus x (lanes_at at e (s ++ replicate k 0) (q ++ replicate k 0))
-    ≡ columns_plus x (lanes_at at e s q)
-lanes_behind x rows len reads at k e s q few bound same room =
-    let wide : at + (length q + k) ≤ rows = omega arith in
-    let scored : at + (length (map (lane_score e) q) + k) ≤ rows =
-    omega (arith, length-map q (lane_score e)) in
-    let first = map-append (lane_score e) q (replicate k 0)
-    ∙ ap (λ ns. map (lane_score e) q ++ ns) (zeros_mapped (lane_score e) refl k) in
-    columns_same (columns_plus x (lanes_at at e (s ++ replicate k 0) (q ++ replicate k 0)))
-    (columns_plus x (lanes_at at e s q))
-    (row_behind (one_if (nat_le 1)) refl rows len reads at k x.bases q few.bases (omega arith) wide)
-    (row_behind (lane_score e) refl rows len (93 * reads) at k x.score_sum q few.score_sum
-    (omega arith) wide)
-    (ap (λ ns. rows_plus x.q30_bases (replicate at 0 ++ map (one_if (nat_le 30)) ns)) first
-    ∙ row_behind (one_if (nat_le 30)) refl rows len reads at k x.q30_bases
-    (map (lane_score e) q) few.q30_bases (omega arith) scored)
-    (row_behind (one_if is_a) refl rows len reads at k x.a s few.a (omega arith) room)
-    (row_behind (one_if is_c) refl rows len reads at k x.c s few.c (omega arith) room)
-    (row_behind (one_if is_g) refl rows len reads at k x.g s few.g (omega arith) room)
-    (row_behind (one_if is_t) refl rows len reads at k x.t s few.t (omega arith) room)
-    (row_behind (one_if is_n) refl rows len reads at k x.n s few.n (omega arith) room)
 
 -- rows such as some reads can give are such as more reads can give that reach further
 pub few_weaker : (x : Columns) (rows rows' len len' reads reads' : ℕ) → AreFew rows len reads x →

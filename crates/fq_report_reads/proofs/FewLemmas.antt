@@ -1,7 +1,7 @@
 -- Rows of a few reads, of which a vector holds some.
 use Rattle.std.proofs.Common.{◌≡◌, ℕ, zero, suc, ◌+◌, ◌<◌, ◌≤◌, true, false, nat_le, List, [], ◌∷◌, ◌++◌, length, take, map, get_or, replicate, refl, ap, ap₂, sym, ◌∙◌, arith, eqb, max, Fits, w8, w16, subst}
 use Rattle.std.specs.List.{list_all}
-use Rattle.std.proofs.lemmas.List.{append_assoc, length-append, length-replicate, length-map, map-append, get_or_past, get_or-replicate, replicate-append-replicate, map-id, append-nil}
+use Rattle.std.proofs.lemmas.List.{length-append, length-replicate, get_or_past, get_or-replicate, map-id, append-nil}
 use Rattle.std.proofs.lemmas.Bool.{and_parts, le-leb, leb-true, ne_eqb}
 use Rattle.fq_text.specs.declared.encoding.Encoding.{Encoding}
 use Rattle.fq_text.specs.Scores.{is_scored}
@@ -103,7 +103,7 @@ shifted_at_most zero most ys small k = small k
 shifted_at_most (suc at) most ys small zero = let least : 0 ≤ most = omega arith in least
 shifted_at_most (suc at) most ys small (suc k) = shifted_at_most at most ys small k
 
-length-shifted : (at : ℕ) (ys : List ℕ) → length (replicate at 0 ++ ys) ≡ at + length ys
+pub length-shifted : (at : ℕ) (ys : List ℕ) → length (replicate at 0 ++ ys) ≡ at + length ys
 length-shifted at ys = grind (arith, common_steps, length-append, length-replicate)
 
 -- with at most `more` added to each of some rows, none is above `most + more`
@@ -145,16 +145,6 @@ pub row_cut : (rows len len' most more at n : ℕ) (xs ys : List ℕ) → IsFew 
 row_cut rows len len' most more at n xs ys few small long bound is room =
     grind (arith, common_steps, length-shifted, shifted_at_most, cut_plus)
 
--- zeros after a vector change nothing
-plus_zeros_behind : (xs ys : List ℕ) (k : ℕ) → Small xs → length ys + k ≤ length xs →
-    rows_plus xs (ys ++ replicate k 0) ≡ rows_plus xs ys
-plus_zeros_behind xs [] k small room = grind (arith, common_steps, grown_within, plus_none)
-plus_zeros_behind [] (y ∷ ys) k small room = absurd (omega arith)
-plus_zeros_behind (x ∷ xs) (y ∷ ys) k small room =
-    ap (λ ns. capped_sum x y ∷ ns) (plus_zeros_behind xs ys k (λ j. small (suc j)) (omega arith))
-
--- What is counted of vectors.
-
 -- up to position 10,000, numbers by position are the numbers at their places
 pub placed_short : (at : ℕ) (ns : List ℕ) → at + length ns ≤ 10000 →
     placed at ns ≡ replicate at 0 ++ ns
@@ -180,29 +170,6 @@ lanes_bases e [] (c ∷ s) all same = absurd (omega arith)
 lanes_bases e (b ∷ q) [] all same = absurd (omega arith)
 lanes_bases e (b ∷ q) (c ∷ s) all same =
     grind (arith, common_steps, and_parts, scored_low, le-leb, lanes_bases e q s)
-
--- of lanes without a base nothing is counted
-pub zeros_mapped : (f : ℕ → ℕ) → f 0 ≡ 0 → (k : ℕ) → map f (replicate k 0) ≡ replicate k 0
-zeros_mapped f none zero = refl
-zeros_mapped f none (suc k) = ap₂ (λ n ns. n ∷ ns) none (zeros_mapped f none k)
-
--- numbers behind k zeros are the same numbers, k places further on
-pub zeros_in_front : (f : ℕ → ℕ) → f 0 ≡ 0 → (at k : ℕ) (xs : List ℕ) →
-    replicate at 0 ++ map f (replicate k 0 ++ xs) ≡ replicate (at + k) 0 ++ map f xs
-zeros_in_front f none at k xs =
-    ap (λ ns. replicate at 0 ++ ns) (map-append f (replicate k 0) xs
-    ∙ ap (λ ns. ns ++ map f xs) (zeros_mapped f none k))
-    ∙ sym (append_assoc (replicate at 0) (replicate k 0) (map f xs))
-    ∙ ap (λ ns. ns ++ map f xs) (replicate-append-replicate at k 0)
-
--- zeros after some numbers add nothing to a row
-pub row_behind : (f : ℕ → ℕ) → f 0 ≡ 0 → (rows len most at k : ℕ) (xs ys : List ℕ) →
-    IsFew rows len most xs → most ≤ 65535 → at + (length ys + k) ≤ rows →
-    rows_plus xs (replicate at 0 ++ map f (ys ++ replicate k 0))
-    ≡ rows_plus xs (replicate at 0 ++ map f ys)
-row_behind f none rows len most at k xs ys few bound room =
-    let cut = map-append f ys (replicate k 0) in let long = length-map ys f in
-    grind (arith, common_steps, zeros_mapped, append_assoc, plus_zeros_behind, length-shifted)
 
 -- if each number is at most this, so are all of a list
 pub mapped_at_most : (f : ℕ → ℕ) (most : ℕ) → ((x : ℕ) → f x ≤ most) → (xs : List ℕ) →

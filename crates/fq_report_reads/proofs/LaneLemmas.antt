@@ -1,8 +1,7 @@
 -- Bases that are counted by vectors, one after the other.
-use Rattle.std.proofs.Common.{◌≡◌, ℕ, zero, suc, ◌+◌, ◌<◌, ◌≤◌, Bool, true, List, [], ◌∷◌, ◌++◌, length, take, drop, map, set, get_or, replicate, refl, ap, ap₂, sym, ◌∙◌, arith, max, ◌-◌, ◌||◌, subst}
+use Rattle.std.proofs.Common.{◌≡◌, ℕ, ◌+◌, ◌<◌, ◌≤◌, Bool, true, List, [], ◌∷◌, ◌++◌, length, take, drop, map, set, get_or, refl, ap, ap₂, sym, ◌∙◌, arith, max, ◌-◌, ◌||◌, subst}
 use Rattle.std.specs.List.{list_all}
-use Rattle.std.proofs.lemmas.List.{append_assoc, length-take-le, length-map, take_all, length-drop, drop-drop, drop_more, get_or_at, set_at, map_more}
-use Rattle.std.proofs.lemmas.List.Folds.{list_all-append}
+use Rattle.std.proofs.lemmas.List.{append_assoc, length-take-le, length-map, take_all, length-drop, drop_more, get_or_at, set_at, map_more}
 use Rattle.std.proofs.lemmas.Bool.{and_parts, and_from}
 use Rattle.fq_text.specs.declared.encoding.Encoding.{Encoding}
 use Rattle.fq_text.specs.Scores.{is_scored}
@@ -13,7 +12,7 @@ use Rattle.std.proofs.lemmas.Simd.{length-chunk}
 use lib.Lanes.{chunk}
 use Rattle.fq_report_reads.specs.Counting.{is_lane, most_reads}
 use Rattle.fq_report_reads.specs.Columns.{AreFew, HoldsFew, columns_from, columns_plus, first_rows, lanes_at}
-use Rattle.fq_report_reads.proofs.ColumnLemmas.{columns_assoc, more_counted, few_weaker, lanes_are_columns, lanes_behind, lanes_cut, lanes_more, lanes_moved, lanes_nothing}
+use Rattle.fq_report_reads.proofs.ColumnLemmas.{columns_assoc, more_counted, few_weaker, lanes_are_columns, lanes_cut, lanes_more, lanes_nothing}
 use Rattle.std.proofs.lemmas.Grind.{common_steps}
 
 -- Lanes that hold scored bytes, and zeros beside them.
@@ -27,22 +26,6 @@ pub scored_lanes : (e : Encoding) (q : List ℕ) → list_all (is_scored e) q �
 scored_lanes e [] all = refl
 scored_lanes e (b ∷ bs) all =
     grind (arith, common_steps, and_parts, and_from, or_true, scored_lanes e bs)
-
--- zeros, and then bytes that have scores, are valid lanes
-pub lanes_in_front : (e : Encoding) (k : ℕ) (q : List ℕ) → list_all (is_scored e) q ≡ true →
-    list_all (is_lane e) (replicate k 0 ++ q) ≡ true
-lanes_in_front e zero q all = scored_lanes e q all
-lanes_in_front e (suc k) q all = lanes_in_front e k q all
-
-no_lanes : (e : Encoding) (k : ℕ) → list_all (is_lane e) (replicate k 0) ≡ true
-no_lanes e zero = refl
-no_lanes e (suc k) = no_lanes e k
-
--- bytes that have scores, and then zeros, are valid lanes
-pub lanes_then_none : (e : Encoding) (k : ℕ) (q : List ℕ) → list_all (is_scored e) q ≡ true →
-    list_all (is_lane e) (q ++ replicate k 0) ≡ true
-lanes_then_none e k q all = list_all-append (is_lane e) q (replicate k 0)
-    ∙ and_from _ _ (scored_lanes e q all) (no_lanes e k)
 
 -- counting no bases in the rows of a few reads changes nothing
 pub nothing_counted : (x : Columns) (rows len reads at : ℕ) (e : Encoding) →
@@ -108,41 +91,6 @@ module _ (start now : Columns) (at from : ℕ) (e : Encoding) (seq qual : List �
       subst (λ x. AreFew rows 10032 254 x) (ap (columns_plus start) (lanes_are_columns at e
       (take from seq) (take from qual) front_scored (omega arith) (omega arith))
       ∙ sym so_far) more
-
--- The last bases of a read, in the last lanes of a vector and in the first.
-pub rest_in_last : (old new : Columns) (at from start k : ℕ) (e : Encoding)
-    (seq qual bases bytes : List ℕ) → start + k ≡ from →
-    bases ≡ replicate k 0 ++ drop k (drop start seq) →
-    bytes ≡ replicate k 0 ++ drop k (drop start qual) →
-    length qual ≡ length seq → at + length qual ≤ 10000 → from ≤ length seq →
-    list_all (is_scored e) qual ≡ true →
-    new ≡ columns_plus old (lanes_at (at + start) e bases bytes) →
-    new ≡ columns_plus old (columns_from (at + from) e (drop from seq) (drop from qual))
-rest_in_last old new at from start k e seq qual bases bytes place s q same near within scored here =
-    grind (arith, length-drop, lanes_moved, drop-drop, lanes_are_columns, all_dropped)
-
--- the last bases of a read are counted from the first lanes of a vector, with zeros after them
-pub rest_in_first : (old new : Columns) (rows at from k m : ℕ) (e : Encoding)
-    (seq qual bases bytes : List ℕ) →
-    bases ≡ drop from seq ++ replicate k 0 → bytes ≡ drop from qual ++ replicate m 0 →
-    k ≡ 32 - length (drop from seq) → m ≡ 32 - length (drop from qual) →
-    length qual ≡ length seq → at + length qual ≤ 10000 → from ≤ length seq →
-    length seq ≤ from + 32 → list_all (is_scored e) qual ≡ true → at + (from + 32) ≤ rows →
-    AreFew rows 10032 254 old →
-    new ≡ columns_plus old (lanes_at (at + from) e bases bytes) →
-    new ≡ columns_plus old (columns_from (at + from) e (drop from seq) (drop from qual))
-rest_in_first old new rows at from k m e seq qual bases bytes s q k_is m_is same near within less
-    scored room few here =
-    let ls = length-drop from seq in
-    let lq = length-drop from qual in
-    let equal : m ≡ k = omega arith in
-    here
-    ∙ ap₂ (λ x y. columns_plus old (lanes_at (at + from) e x y)) s (q
-    ∙ ap (λ n. drop from qual ++ replicate n 0) equal)
-    ∙ lanes_behind old rows 10032 254 (at + from) k e (drop from seq) (drop from qual) few
-    (omega arith) (omega arith) (omega arith)
-    ∙ ap (columns_plus old) (lanes_are_columns (at + from) e (drop from seq) (drop from qual)
-    (all_dropped (is_scored e) qual from scored) (omega arith) (omega arith))
 
 -- One more read among a few, in rows that reach as far as it does.
 module _ (at : ℕ) (e : Encoding) (seq qual : List ℕ) {x y : Columns}
