@@ -1,7 +1,7 @@
 //! What devices of the system can say after they were used: why a call failed, and what the first
 //! bytes looked like.
 
-ghost use Rattle.std.specs.Prelude.{◌≡◌, ℕ, pos, Some};
+ghost use Rattle.std.specs.Prelude.{◌≡◌, ℕ, pos, Some, None};
 ghost use Rattle.std.specs.IoError.{raw_os_error};
 ghost use Rattle.fq_text.specs.Looks.{look_of};
 
@@ -17,8 +17,9 @@ pub struct SystemError {
 impl SystemError {
     /// The number of an error of the standard library.
     pub fn of(error: io::Error) -> SystemError
-        ensures { (number : ℕ) → raw_os_error error ≡ Some (pos number)
+        ensures number { (number : ℕ) → raw_os_error error ≡ Some (pos number)
             → result.number ≡ number }
+        ensures none { raw_os_error error ≡ None → result.number ≡ 0 }
     {
         match error.raw_os_error() {
             Some(code) => SystemError {
