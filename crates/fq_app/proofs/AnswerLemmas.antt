@@ -22,7 +22,7 @@ use Rattle.fq_app_words.specs.Requests.{Asking, input_name}
 use Rattle.fq_app_words.specs.Words.{AskedFor, asked_pairs, pairs_asked}
 use Rattle.fq_app_words.specs.declared.words.Asked.{Asked}
 use Rattle.fq_app_files.specs.Judging.{wrong_with}
-use Rattle.fq_app_files.specs.Trimming.{filed, AreFilesTold, AreInputsTold, AreMadeTold, IsNoOutput, TrimsFiles}
+use Rattle.fq_app_files.specs.Trimming.{filed, AreInputsTold, IsNoOutput, TrimsFiles}
 use Rattle.fq_app_files.specs.Leaving.{RefusalLeaves, ReportLeft, HoldFirstPairs, AreLeft, TellsInputs}
 use Rattle.fq_app_files.proofs.EndingLemmas.{done_is_whole, ends_so}
 use Rattle.fq_app_files.proofs.LeavingLemmas.{refusal_untrimmed, report_untrimmed, whole_first}
@@ -64,8 +64,10 @@ refuses_fails a refusal err status (inr lacks) =
 -- refused memory has its line, or that of a report
 untold_line : (a : Asking) (old new : FilesState) (out err : Device) (status : ℕ) (text : List ℕ) →
     status ≡ 5 → (text ≡ memory_line) ⊎ (text ≡ report_memory_line a) → TookText err text
-    → (AreFilesTold (filed old a) old.tells → AreLeft (filed old a) old.bytes new.bytes)
-    → (AreFilesTold (filed old a) old.tells → (name : List ℕ) → (filed old a).report ≡ Some name →
+    → (AreInputsTold (filed old a).inputs old.tells →
+    AreLeft (filed old a) old.tells old.bytes new.bytes)
+    → (AreInputsTold (filed old a).inputs old.tells → (name : List ℕ) →
+    (filed old a).report ≡ Some name → IsTrue (old.tells name) →
     IsReportUncut a (filed old a) old.bytes new.bytes name) →
     TookLine a old new out err status
 untold_line a old new out err status text five is took left report_left = record {
@@ -82,8 +84,10 @@ untold_line a old new out err status text five is took left report_left = record
 -- refused memory has its line
 lacks_line : (a : Asking) (old new : FilesState) (out err : Device) (status : ℕ) →
     LacksMemory err status
-    → (AreFilesTold (filed old a) old.tells → AreLeft (filed old a) old.bytes new.bytes)
-    → (AreFilesTold (filed old a) old.tells → (name : List ℕ) → (filed old a).report ≡ Some name →
+    → (AreInputsTold (filed old a).inputs old.tells →
+    AreLeft (filed old a) old.tells old.bytes new.bytes)
+    → (AreInputsTold (filed old a).inputs old.tells → (name : List ℕ) →
+    (filed old a).report ≡ Some name → IsTrue (old.tells name) →
     IsReportUncut a (filed old a) old.bytes new.bytes name) →
     TookLine a old new out err status
 lacks_line a old new out err status lacks left report_left =
@@ -110,8 +114,10 @@ uncut_left a f old new name uncut = ⊎_elim (λ kept. inl kept)
 -- a request that ends because memory was refused
 pub lacks_answer : (a : Asking) (old new : FilesState) (out err : Device) (status : ℕ) →
     LacksMemory err status
-    → (AreFilesTold (filed old a) old.tells → AreLeft (filed old a) old.bytes new.bytes)
-    → (AreFilesTold (filed old a) old.tells → (name : List ℕ) → (filed old a).report ≡ Some name →
+    → (AreInputsTold (filed old a).inputs old.tells →
+    AreLeft (filed old a) old.tells old.bytes new.bytes)
+    → (AreInputsTold (filed old a).inputs old.tells → (name : List ℕ) →
+    (filed old a).report ≡ Some name → IsTrue (old.tells name) →
     IsReportUncut a (filed old a) old.bytes new.bytes name)
     → ((side : Side) → IsTrue (old.tells (input_name (filed old a).inputs side)) →
     old.bytes (input_name (filed old a).inputs side) ≡ None → IsUnchanged old.bytes new.bytes) →
@@ -129,8 +135,8 @@ lacks_answer a old new out err status lacks left report_left unopened =
       reported =
           λ ends. absurd (⊎_elim (λ zero. omega (arith, zero, five)) (λ three. omega
           (arith, three, five)) ends);
-      report_left = λ tells name named. uncut_left a (filed old a) old.bytes new.bytes name
-          (report_left tells name named);
+      report_left = λ tells name named own. uncut_left a (filed old a) old.bytes new.bytes name
+          (report_left tells name named own);
       unopened = unopened;
     }
 
@@ -143,9 +149,8 @@ pub refused_answer : (a : Asking) (old new : FilesState) (out err : Device) (sta
     (refusal : Refusal) → Refuses a refusal err status
     → ((other : Refusal) → wrong_with a ≡ Some other → refusal ≡ other) →
     (wrong_with a ≡ None → status_of refusal ≢ 2)
-    → (AreMadeTold (filed old a) old.tells →
-    RefusalLeaves (filed old a) refusal old.bytes new.bytes)
-    → (AreMadeTold (filed old a) old.tells → (name : List ℕ) → (filed old a).report ≡ Some name →
+    → RefusalLeaves (filed old a) old.tells refusal old.bytes new.bytes
+    → ((name : List ℕ) → (filed old a).report ≡ Some name → IsTrue (old.tells name) →
     IsNoOutput (filed old a) name →
     ReportLeft refusal (old.bytes name) (new.bytes name))
     → ((side : Side) → IsTrue (old.tells (input_name (filed old a).inputs side)) →
@@ -176,23 +181,21 @@ refused_answer a old new out err status refusal (inl refuses) first late left re
       };
       known = λ one. own.1 (sym is ∙ one);
       left = λ other tells.
-          inl (refusal_untrimmed (filed old a) refusal old.bytes new.bytes (left tells.made));
+          inl (refusal_untrimmed (filed old a) old.tells refusal old.bytes new.bytes left);
       reported =
           λ ends. absurd (⊎_elim (λ zero. own.0 (sym is ∙ zero)) (λ three. own.2 (sym is ∙ three))
           ends);
       report_left =
-          λ tells name named. inl (report_untrimmed (filed old a) refusal old.bytes new.bytes
-          (left tells.made)
-          (report_left tells.made) name named);
+          λ tells name named own. inl (report_untrimmed (filed old a) old.tells refusal old.bytes
+          new.bytes left report_left name named own);
       unopened = unopened;
     }
 refused_answer a old new out err status refusal (inr lacks) first late left report_left
     unopened =
     lacks_answer a old new out err status lacks
-    (λ tells. inl (refusal_untrimmed (filed old a) refusal old.bytes new.bytes (left tells.made)))
-    (λ tells name named. inl (report_untrimmed (filed old a) refusal old.bytes new.bytes
-    (left tells.made)
-    (report_left tells.made) name named)) unopened
+    (λ tells. inl (refusal_untrimmed (filed old a) old.tells refusal old.bytes new.bytes left))
+    (λ tells name named own. inl (report_untrimmed (filed old a) old.tells refusal old.bytes
+    new.bytes left report_left name named own)) unopened
 
 -- What is known of a run that was made: what its outputs hold, whether its report was due, and what
 -- the report holds.
@@ -201,20 +204,22 @@ pub record IsRun (a : Asking) (old new : FilesState) (outcome : Outcome)
   -- no gate ended it
   pub no_gate : outcome ≢ Gate
   -- if it ended whole, all pairs were trimmed
-  pub trims : AreFilesTold (filed old a) old.tells → IsTrue (ends_whole outcome) →
-      TrimsFiles (filed old a) old.bytes new.bytes outcome counts
+  pub trims : AreInputsTold (filed old a).inputs old.tells → IsTrue (ends_whole outcome) →
+      TrimsFiles (filed old a) old.tells old.bytes new.bytes outcome counts
   -- unless a lane was not confirmed, the outputs hold the texts of first pairs
-  pub ended : AreFilesTold (filed old a) old.tells → outcome ≢ Lane →
-      HoldFirstPairs (filed old a) old.bytes new.bytes outcome
+  pub ended : AreInputsTold (filed old a).inputs old.tells → outcome ≢ Lane →
+      HoldFirstPairs (filed old a) old.tells old.bytes new.bytes outcome
   -- a report is due only if the status is 0 or 3
   pub due : reported ≢ report.NotDue → (outcome_status outcome ≡ 0) ⊎ (outcome_status outcome ≡ 3)
   -- if one was asked for and not due, the status is neither 0 nor 3
   pub not_due : reported ≡ report.NotDue → IsSome a.report →
       (outcome_status outcome ≢ 0) × (outcome_status outcome ≢ 3)
   -- what the file of the report holds depends on what became of the report
-  pub held : AreFilesTold (filed old a) old.tells → (name : List ℕ) →
-      (filed old a).report ≡ Some name →
+  pub held : AreInputsTold (filed old a).inputs old.tells → (name : List ℕ) →
+      (filed old a).report ≡ Some name → IsTrue (old.tells name) →
       ReportHeld reported a (filed old a) old.bytes new.bytes name
+  pub unreported : reported ≡ report.NotDue → (name : List ℕ) → (filed old a).report ≡ Some name →
+      IsTrue (old.tells name) → new.bytes name ≡ Some []
 
 is_wanted : (leads : List ℕ → List ℕ) (o : Option (List ℕ)) (file : List ℕ) →
     option_map leads o ≡ Some file → IsSome o
@@ -234,12 +239,12 @@ not_lane outcome is lane =
 
 module _ (a : Asking) (old new : FilesState) (outcome : Outcome) (counts : Counts)
     (reported : Reported) (run : IsRun a old new outcome counts reported) where
-  held_as : (is : Reported) → reported ≡ is → AreFilesTold (filed old a) old.tells →
-      (name : List ℕ) → (filed old a).report ≡ Some name →
+  held_as : (is : Reported) → reported ≡ is → AreInputsTold (filed old a).inputs old.tells →
+      (name : List ℕ) → (filed old a).report ≡ Some name → IsTrue (old.tells name) →
       ReportHeld is a (filed old a) old.bytes new.bytes name
-  held_as is same tells name named =
+  held_as is same tells name named own =
       let P : Reported → Type 0 = λ r. ReportHeld r a (filed old a) old.bytes new.bytes name in
-      subst P same (run.held tells name named)
+      subst P same (run.held tells name named own)
 
   due_as : (is : Reported) → reported ≡ is → is ≢ report.NotDue →
       (outcome_status outcome ≡ 0) ⊎ (outcome_status outcome ≡ 3)
@@ -248,31 +253,35 @@ module _ (a : Asking) (old new : FilesState) (outcome : Outcome) (counts : Count
   -- if the run ended whole, a report that was written or not due holds the defined text
   pub is_held : (reported ≡ report.NotDue) ⊎ (reported ≡ report.Written) →
       (outcome_status outcome ≡ 0) ⊎ (outcome_status outcome ≡ 3)
-      → AreFilesTold (filed old a) old.tells → (name : List ℕ) → (filed old a).report ≡ Some name →
+      → AreInputsTold (filed old a).inputs old.tells → (name : List ℕ) →
+      (filed old a).report ≡ Some name → IsTrue (old.tells name) →
       HoldsReport a (filed old a) old.bytes new.bytes name
-  is_held (inl none) ends tells name named =
+  is_held (inl none) ends tells name named own =
       let other = run.not_due none (is_wanted old.leads a.report name named) in
       absurd (⊎_elim other.0 other.1 ends)
-  is_held (inr written) ends tells name named = held_as report.Written written tells name named
+  is_held (inr written) ends tells name named own =
+      held_as report.Written written tells name named own
 
   -- if the run did not end whole, the report is empty
   is_empty : (reported ≡ report.NotDue) ⊎ (reported ≡ report.Written) →
-      AreFilesTold (filed old a) old.tells → outcome_status outcome ≢ 0 → outcome_status outcome ≢ 3
-      → (name : List ℕ) → (filed old a).report ≡ Some name → new.bytes name ≡ Some []
-  is_empty (inl none) tells some other name named = held_as report.NotDue none tells name named
-  is_empty (inr written) tells some other name named =
+      outcome_status outcome ≢ 0 → outcome_status outcome ≢ 3 → (name : List ℕ) →
+      (filed old a).report ≡ Some name → IsTrue (old.tells name) → new.bytes name ≡ Some []
+  is_empty (inl none) some other name named own = run.unreported none name named own
+  is_empty (inr written) some other name named own =
       absurd (⊎_elim some other (due_as report.Written written (λ e. absurd (cc e))))
 
   -- a report that was written or not due is whole or empty
   is_uncut : (reported ≡ report.NotDue) ⊎ (reported ≡ report.Written) →
-      AreFilesTold (filed old a) old.tells → (name : List ℕ) → (filed old a).report ≡ Some name →
+      AreInputsTold (filed old a).inputs old.tells → (name : List ℕ) →
+      (filed old a).report ≡ Some name → IsTrue (old.tells name) →
       IsReportUncut a (filed old a) old.bytes new.bytes name
-  is_uncut (inl none) tells name named = inl (inr (held_as report.NotDue none tells name named))
-  is_uncut (inr written) tells name named = inr (held_as report.Written written tells name named)
+  is_uncut (inl none) tells name named own = inl (inr (run.unreported none name named own))
+  is_uncut (inr written) tells name named own =
+      inr (held_as report.Written written tells name named own)
 
   -- the line of a run that was made
   pub told_line : (seen : EndingSeen)
-      (said : AreFilesTold (filed old a) old.tells →
+      (said : AreInputsTold (filed old a).inputs old.tells →
       IsSaid old.looks (filed old a) old.bytes (settled outcome) seen)
       (its_error : IsItsError (filed old a) old.may_say outcome seen)
       (error : Option SystemError)
@@ -354,8 +363,8 @@ module _ (a : Asking) (old new : FilesState) (outcome : Outcome) (counts : Count
       let due = due_as (report.OutOfMemory lacks.0.0) lacks.0.1 (λ e. absurd (cc e)) in
       untold_line a old new out err status (report_memory_line a) lacks.1 (inr refl) lacks.2
       (λ tells. inr (outcome, run.ended tells (not_lane outcome due)))
-      (λ tells name named. inl (inr (held_as (report.OutOfMemory lacks.0.0) lacks.0.1 tells name
-      named)))
+      (λ tells name named own. inl (inr (held_as (report.OutOfMemory lacks.0.0) lacks.0.1 tells name
+      named own)))
 
 -- ---- the device that is named
 
@@ -446,9 +455,10 @@ fits_left : (a : Asking) (old new : FilesState) (out : Device) (status : ℕ)
     (text : List ℕ) → (IsRefusal a old new status text ⊎ IsEnding a old new status text)
     ⊎ (IsUnprinted a old new out status text
     ⊎ (IsUntold a old new status text ⊎ IsUnreported a old new status text)) →
-    status ≢ 6 → AreFilesTold (filed old a) old.tells → AreLeft (filed old a) old.bytes new.bytes
+    status ≢ 6 → AreInputsTold (filed old a).inputs old.tells →
+    AreLeft (filed old a) old.tells old.bytes new.bytes
 fits_left a old new out status text (inl (inl refusal)) other tells =
-    inl (refusal_untrimmed (filed old a) refusal.why old.bytes new.bytes (refusal.left tells.made))
+    inl (refusal_untrimmed (filed old a) old.tells refusal.why old.bytes new.bytes refusal.left)
 fits_left a old new out status text (inl (inr ending)) other tells =
     inr (
       ending.outcome,
@@ -457,26 +467,27 @@ fits_left a old new out status text (inl (inr ending)) other tells =
     )
 fits_left a old new out status text (inr (inl unprinted)) other tells =
     let all = unprinted.left tells in
-    inr (all.0, whole_first (filed old a) old.bytes new.bytes all.0 all.1 all.3)
+    inr (all.0, whole_first (filed old a) old.tells old.bytes new.bytes all.0 all.1 all.3)
 fits_left a old new out status text (inr (inr (inl untold))) other tells = untold.left tells
 fits_left a old new out status text (inr (inr (inr unreported))) other tells =
     let all = unreported.left tells in
-    inr (all.0, whole_first (filed old a) old.bytes new.bytes all.0 all.1 all.2)
+    inr (all.0, whole_first (filed old a) old.tells old.bytes new.bytes all.0 all.1 all.2)
 
 zero_or : (n : ℕ) → (n ≡ 0) ⊎ (n ≢ 0)
 zero_or n = grind arith
 
 -- what a call leaves in the files, at every status except that of an unconfirmed lane
 pub left_so : (a : Asking) (old new : FilesState) (out err : Device) (status : ℕ)
-    → ((status ≡ 0) ⊎ (status ≡ 3) → AreFilesTold (filed old a) old.tells →
+    → ((status ≡ 0) ⊎ (status ≡ 3) → AreInputsTold (filed old a).inputs old.tells →
     EndsWhole a old new out err status) →
     (status ≢ 0 → TookLine a old new out err status)
-    → status ≢ 6 → AreFilesTold (filed old a) old.tells → AreLeft (filed old a) old.bytes new.bytes
+    → status ≢ 6 → AreInputsTold (filed old a).inputs old.tells →
+    AreLeft (filed old a) old.tells old.bytes new.bytes
 left_so a old new out err status whole line other tells = ⊎_elim
     (λ zero. let ends = whole (inl zero) tells in
     inr (
       ends.outcome,
-      whole_first (filed old a) old.bytes new.bytes ends.outcome ends.counts ends.trims,
+      whole_first (filed old a) old.tells old.bytes new.bytes ends.outcome ends.counts ends.trims,
     ))
     (λ some. let took = line some in fits_left a old new out status took.text took.fits other
     tells)

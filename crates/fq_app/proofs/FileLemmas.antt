@@ -15,7 +15,7 @@ use Rattle.fq_law_in_step.specs.InStep.{IsPairIn, AreInStep}
 use Rattle.fq_app_files.specs.Trimming.{filed, pairs_of}
 use Rattle.fq_app_files.specs.Leaving.{AreLeft, AreUntrimmed}
 use Rattle.fq_files.specs.Holding.{Holding}
-use Rattle.fq_files.specs.States.{FilesState}
+use Rattle.fq_files.specs.States.{FilesState, Keys}
 use Rattle.fq_app_words.specs.Requests.{Asking}
 use Rattle.fq_app.specs.Answers.{Device, EndsWhole}
 use Rattle.fq_app.specs.FilesInStep.{FilesAreInStep, FilesAreInStepUpTo}
@@ -49,7 +49,7 @@ complete (Some fault) done = absurd (faulty fault done)
 -- the files that a whole run has left are in step
 pub whole_files : (a : Asking) (old new : FilesState) (out err : Device) (status : ℕ) →
     EndsWhole a old new out err status →
-    FilesAreInStep (filed old a) old.bytes new.bytes out status
+    FilesAreInStep (filed old a) old.tells old.bytes new.bytes out status
 whole_files a old new out err status ends =
     let trims = ends.trims in
     let c = trims.choices in
@@ -77,9 +77,9 @@ whole_files a old new out err status ends =
     }
 
 -- so are those that any other run has left, for the first pairs
-pub files_left : (a : Asking) (old new : Holding) → AreLeft a old new →
-    AreUntrimmed a old new ⊎ FilesAreInStepUpTo a old new
-files_left a old new left = ⊎_elim
+pub files_left : (a : Asking) (tells : Keys) (old new : Holding) → AreLeft a tells old new →
+    AreUntrimmed a tells old new ⊎ FilesAreInStepUpTo a tells old new
+files_left a tells old new left = ⊎_elim
     (λ untrimmed. inl untrimmed)
     (λ ended.
     let held = ended.1 in

@@ -22,7 +22,7 @@ use Rattle.fq_app_files.specs.Judging.{wrong_with}
 use Rattle.fq_app_files.specs.Refusals.{status_of, IsRefusable}
 use Rattle.fq_app_files.specs.Faults.{memory_words, settled, outcome_status, outcome_line}
 use Rattle.fq_app_reasons.specs.Lines.{line_of, ending_line, report_line, report_memory_line}
-use Rattle.fq_app_files.specs.Trimming.{filed, AreFilesTold, AreInputsTold, AreMadeTold, IsNoOutput, TrimsFiles}
+use Rattle.fq_app_files.specs.Trimming.{filed, AreInputsTold, IsNoOutput, TrimsFiles}
 use Rattle.fq_app_files.specs.Leaving.{RefusalLeaves, ReportLeft, HoldFirstPairs, AreLeft, TellsInputs}
 use Rattle.fq_app_files.specs.Completing.{HasFailed, ReportFailed}
 use Rattle.fq_app_files.specs.Reporting.{HoldsReport, BeginsReport}
@@ -70,7 +70,7 @@ pub record EndsWhole (a : Asking) (old new : FilesState) (out err : Device) (sta
   pub outcome : Outcome
   pub counts : Counts
   pub seen : EndingSeen
-  pub trims : TrimsFiles (filed old a) old.bytes new.bytes outcome counts
+  pub trims : TrimsFiles (filed old a) old.tells old.bytes new.bytes outcome counts
   pub said : IsSaid old.looks (filed old a) old.bytes (settled outcome) seen
   pub status_is : outcome_status outcome ≡ status
   pub printed : TookPart out (summary_of counts)
@@ -106,10 +106,9 @@ pub record IsRefusal (a : Asking)
   pub why : Refusal
   pub status_is : status_of why ≡ status
   pub text_is : line_of a why ≡ text
-  pub left : AreMadeTold (filed old a) old.tells →
-      RefusalLeaves (filed old a) why old.bytes new.bytes
-  pub report_left : AreMadeTold (filed old a) old.tells → (file : List ℕ) →
-      (filed old a).report ≡ Some file → IsNoOutput (filed old a) file →
+  pub left : RefusalLeaves (filed old a) old.tells why old.bytes new.bytes
+  pub report_left : (file : List ℕ) → (filed old a).report ≡ Some file →
+      IsTrue (old.tells file) → IsNoOutput (filed old a) file →
       ReportLeft why (old.bytes file) (new.bytes file)
 
 -- an outcome of the run, which no gate ended, has this status and this line, whose reason is what
@@ -121,14 +120,13 @@ pub record IsEnding (a : Asking)
   pub status_is : outcome_status outcome ≡ status
   pub text_is : ending_line a seen outcome ≡ text
   pub no_gate : outcome ≢ Gate
-  pub said : AreFilesTold (filed old a) old.tells →
+  pub said : AreInputsTold (filed old a).inputs old.tells →
       IsSaid old.looks (filed old a) old.bytes (settled outcome) seen
   pub its_error : IsItsError (filed old a) old.may_say outcome seen
-  pub left : AreFilesTold (filed old a) old.tells → outcome ≢ Lane →
-      HoldFirstPairs (filed old a) old.bytes new.bytes outcome
-  pub unreported : AreFilesTold (filed old a) old.tells → outcome_status outcome ≢ 0 →
-      outcome_status outcome ≢ 3 → (file : List ℕ) → (filed old a).report ≡ Some file →
-      new.bytes file ≡ Some []
+  pub left : AreInputsTold (filed old a).inputs old.tells → outcome ≢ Lane →
+      HoldFirstPairs (filed old a) old.tells old.bytes new.bytes outcome
+  pub unreported : outcome_status outcome ≢ 0 → outcome_status outcome ≢ 3 → (file : List ℕ) →
+      (filed old a).report ≡ Some file → IsTrue (old.tells file) → new.bytes file ≡ Some []
 
 -- all pairs were trimmed, and standard output failed, so the summary was not printed
 pub record IsUnprinted (a : Asking)
@@ -136,11 +134,12 @@ pub record IsUnprinted (a : Asking)
   pub status_is : status ≡ 4
   pub failed : out.failures ≢ 0
   pub text_is : text ≡ print_line
-  pub left : AreFilesTold (filed old a) old.tells →
-      (outcome : Outcome) × (counts : Counts)
-      × (outcome_status outcome ≡ 0) × TrimsFiles (filed old a) old.bytes new.bytes outcome counts
-  pub reported : AreFilesTold (filed old a) old.tells → (file : List ℕ) →
-      (filed old a).report ≡ Some file → HoldsReport a (filed old a) old.bytes new.bytes file
+  pub left : AreInputsTold (filed old a).inputs old.tells →
+      (outcome : Outcome) × (counts : Counts) × (outcome_status outcome ≡ 0)
+      × TrimsFiles (filed old a) old.tells old.bytes new.bytes outcome counts
+  pub reported : AreInputsTold (filed old a).inputs old.tells → (file : List ℕ) →
+      (filed old a).report ≡ Some file → IsTrue (old.tells file) →
+      HoldsReport a (filed old a) old.bytes new.bytes file
 
 -- all pairs were trimmed, up to the end of the inputs or a fault in them, and the report could not
 -- be written, for what its device said
@@ -150,11 +149,12 @@ pub record IsUnreported (a : Asking)
   pub its_error : MaySay old.may_say (filed old a).report (Some said)
   pub status_is : status ≡ 4
   pub text_is : (text ≡ report_line a (Some (Some said))) ⊎ (text ≡ report_line a None)
-  pub left : AreFilesTold (filed old a) old.tells →
+  pub left : AreInputsTold (filed old a).inputs old.tells →
       (outcome : Outcome) × (counts : Counts)
-      × TrimsFiles (filed old a) old.bytes new.bytes outcome counts
-  pub begun : AreFilesTold (filed old a) old.tells → (file : List ℕ) →
-      (filed old a).report ≡ Some file → BeginsReport a (filed old a) old.bytes new.bytes file
+      × TrimsFiles (filed old a) old.tells old.bytes new.bytes outcome counts
+  pub begun : AreInputsTold (filed old a).inputs old.tells → (file : List ℕ) →
+      (filed old a).report ≡ Some file → IsTrue (old.tells file) →
+      BeginsReport a (filed old a) old.bytes new.bytes file
 
 -- the file of the report holds what it held before, or nothing, or the whole report
 abbrev pub IsReportUncut : Asking → Asking → Holding → Holding → List ℕ → Type 0
@@ -166,9 +166,11 @@ pub record IsUntold (a : Asking)
     (old new : FilesState) (status : ℕ) (text : List ℕ) : Type 0 where
   pub status_is : status ≡ 5
   pub text_is : (text ≡ memory_line) ⊎ (text ≡ report_memory_line a)
-  pub left : AreFilesTold (filed old a) old.tells → AreLeft (filed old a) old.bytes new.bytes
-  pub report_left : AreFilesTold (filed old a) old.tells → (file : List ℕ) →
-      (filed old a).report ≡ Some file → IsReportUncut a (filed old a) old.bytes new.bytes file
+  pub left : AreInputsTold (filed old a).inputs old.tells →
+      AreLeft (filed old a) old.tells old.bytes new.bytes
+  pub report_left : AreInputsTold (filed old a).inputs old.tells → (file : List ℕ) →
+      (filed old a).report ≡ Some file → IsTrue (old.tells file) →
+      IsReportUncut a (filed old a) old.bytes new.bytes file
 
 -- standard error took the line of one of these, which has this status, and nothing else
 pub record TookLine (a : Asking)
@@ -255,19 +257,20 @@ IsReportLeft a f old new file = ((new file ≡ old file) ⊎ (new file ≡ Some 
 -- How a call with a request ends: the pairs are trimmed, or the request is refused.
 pub record PairsAnswered (a : Asking)
     (old new : FilesState) (out err : Device) (status : ℕ) : Type 0 where
-  pub whole : (status ≡ 0) ⊎ (status ≡ 3) → AreFilesTold (filed old a) old.tells →
+  pub whole : (status ≡ 0) ⊎ (status ≡ 3) → AreInputsTold (filed old a).inputs old.tells →
       EndsWhole a old new out err status
   pub wrong : (why : Refusal) → wrong_with a ≡ Some why → Refuses a why err status
   pub right : status ≡ 2 → IsSome (wrong_with a)
   pub line : status ≢ 0 → TookLine a old new out err status
   pub known : status ≢ 1
-  pub left : status ≢ 6 → AreFilesTold (filed old a) old.tells →
-      AreLeft (filed old a) old.bytes new.bytes
-  pub reported : (status ≡ 0) ⊎ (status ≡ 3) → AreFilesTold (filed old a) old.tells →
-      (file : List ℕ) → (filed old a).report ≡ Some file →
+  pub left : status ≢ 6 → AreInputsTold (filed old a).inputs old.tells →
+      AreLeft (filed old a) old.tells old.bytes new.bytes
+  pub reported : (status ≡ 0) ⊎ (status ≡ 3) → AreInputsTold (filed old a).inputs old.tells →
+      (file : List ℕ) → (filed old a).report ≡ Some file → IsTrue (old.tells file) →
       HoldsReport a (filed old a) old.bytes new.bytes file
-  pub report_left : AreFilesTold (filed old a) old.tells → (file : List ℕ) →
-      (filed old a).report ≡ Some file → IsReportLeft a (filed old a) old.bytes new.bytes file
+  pub report_left : AreInputsTold (filed old a).inputs old.tells → (file : List ℕ) →
+      (filed old a).report ≡ Some file → IsTrue (old.tells file) →
+      IsReportLeft a (filed old a) old.bytes new.bytes file
   pub unopened : (side : Side) → IsTrue (old.tells (input_name (filed old a).inputs side)) →
       old.bytes (input_name (filed old a).inputs side) ≡ None →
       IsUnchanged old.bytes new.bytes

@@ -4,7 +4,7 @@ use Rattle.clap.specs.Kinds.{Kinds}
 use Rattle.fq_text.specs.Devices.{OutletState}
 use Rattle.fq_files.specs.States.{FilesState}
 use Rattle.fq_app_words.specs.Requests.{Asking}
-use Rattle.fq_app_files.specs.Trimming.{filed, AreFilesTold, AreMadeTold, KeepsUnnamed}
+use Rattle.fq_app_files.specs.Trimming.{filed, AreInputsTold, KeepsUnnamed}
 use Rattle.fq_app_files.specs.Leaving.{AreUntrimmed}
 use Rattle.fq_app_files.specs.Opening.{SparesInputs}
 use Rattle.fq_app.specs.Answers.{Device, device_of, AreCalls, AreRefused, IsUnshown, LacksMemory, LacksPrint, NamesDevice, PairsAnswered, TookLines, TookMemoryLine, TookText, print_line}
@@ -39,16 +39,15 @@ pub record RequestAnswered (a : Asking)
   -- other and with the summary that was printed, and at status 0 no fault ended the pairs. At every
   -- status except 6 each file of an output holds what it held before, or nothing, or these files
   -- are in step for the first pairs, up to the block in which a write failed.
-  pub in_step : (status ≡ 0) ⊎ (status ≡ 3) → AreFilesTold (filed old a) old.tells →
-      FilesAreInStep (filed old a) old.bytes new.bytes out status
-  pub left_in_step : status ≢ 6 → AreFilesTold (filed old a) old.tells →
-      AreUntrimmed (filed old a) old.bytes new.bytes
-      ⊎ FilesAreInStepUpTo (filed old a) old.bytes new.bytes
+  pub in_step : (status ≡ 0) ⊎ (status ≡ 3) → AreInputsTold (filed old a).inputs old.tells →
+      FilesAreInStep (filed old a) old.tells old.bytes new.bytes out status
+  pub left_in_step : status ≢ 6 → AreInputsTold (filed old a).inputs old.tells →
+      AreUntrimmed (filed old a) old.tells old.bytes new.bytes
+      ⊎ FilesAreInStepUpTo (filed old a) old.tells old.bytes new.bytes
   -- At status 4 the line names a file or device that was indeed refused or has failed.
   pub device : status ≡ 4 → NamesDevice a old new out err
   -- Only the files of the outputs and of the report change.
-  pub rest : AreMadeTold (filed old a) old.tells →
-      KeepsUnnamed (filed old a) old.bytes new.bytes
+  pub rest : KeepsUnnamed (filed old a) old.bytes new.bytes
   -- If an output or the report leads to an input, no file changes, and the status is neither 0 nor
   -- 3.
   pub spared : SparesInputs (filed old a) ((status ≢ 0) × (status ≢ 3)) old new

@@ -1,6 +1,7 @@
 -- What the program leaves in files, read again as FASTQ: the outputs are in step.
 use Rattle.std.specs.Prelude.{◌≡◌, ℕ, Some, None, Ok, List, ◌++◌}
 use Rattle.fq_files.specs.Holding.{Holding}
+use Rattle.fq_files.specs.States.{Keys}
 use Rattle.fq_pair.specs.declared.out.Out.{Out}
 use Rattle.fq_pair.specs.declared.counts.Counts.{Counts}
 use Rattle.fq_pair.specs.Mates.{Mates}
@@ -16,16 +17,16 @@ use Rattle.fq_app.specs.Answers.{Device, TookPart}
 use Rattle.fq_law_in_step.specs.InStep.{AreInStep}
 
 -- the files of the outputs that have a name of their own hold these texts
-abbrev pub HoldTexts : Asking → Holding → (Out → List ℕ) → Type 0
-HoldTexts a files texts = (out : Out) (name : List ℕ) →
-    HasOwnName a out name → files name ≡ Some (texts out)
+abbrev pub HoldTexts : Asking → Keys → Holding → (Out → List ℕ) → Type 0
+HoldTexts a tells files texts = (out : Out) (name : List ℕ) →
+    HasOwnName a tells out name → files name ≡ Some (texts out)
 
 -- At status 0 and 3.
 
 -- The files hold the outputs of all pairs of the inputs, in step with each other and with the
 -- summary that was printed. At status 0 no fault ends the pairs, so they are made of all records
 -- of the inputs (`NothingIsLost`).
-pub record FilesAreInStep (a : Asking)
+pub record FilesAreInStep (a : Asking) (tells : Keys)
     (old new : Holding) (out : Device) (status : ℕ) : Type 0 where
   pub choices : Choices
   pub forward : List ℕ
@@ -37,7 +38,7 @@ pub record FilesAreInStep (a : Asking)
   pub reverse_is : old a.inputs.reverse ≡ Some reverse
   pub complete : status ≡ 0 → (pairs_of choices a.inputs.form forward reverse).fault ≡ None
   pub printed : TookPart out (summary_of counts)
-  pub held : HoldTexts a new texts
+  pub held : HoldTexts a tells new texts
   pub in_step : AreInStep choices.check_names choices.steps
       choices.encoding (pairs_of choices a.inputs.form forward reverse).mates counts texts
 
@@ -45,7 +46,7 @@ pub record FilesAreInStep (a : Asking)
 
 -- The files hold the outputs of the first pairs of the inputs, in step with each other. After these
 -- there is at most the part that was written of the one block in which a write failed.
-pub record FilesAreInStepUpTo (a : Asking) (old new : Holding) : Type 0 where
+pub record FilesAreInStepUpTo (a : Asking) (tells : Keys) (old new : Holding) : Type 0 where
   pub choices : Choices
   pub forward : List ℕ
   pub reverse : List ℕ
@@ -56,6 +57,6 @@ pub record FilesAreInStepUpTo (a : Asking) (old new : Holding) : Type 0 where
   pub forward_is : old a.inputs.forward ≡ Some forward
   pub reverse_is : old a.inputs.reverse ≡ Some reverse
   pub first : AreFirst whole (pairs_of choices a.inputs.form forward reverse).mates
-  pub held : HoldTexts a new (λ out. texts out ++ part_begun choices.steps fate out)
+  pub held : HoldTexts a tells new (λ out. texts out ++ part_begun choices.steps fate out)
   pub in_step : AreInStep choices.check_names
       choices.steps choices.encoding whole (counts_of choices.steps whole) texts

@@ -9,7 +9,7 @@ ghost use Rattle.fq_app_files.specs.declared.refusal.Refusal.{Refusal as Refused
 ghost use Rattle.fq_app_files.specs.Refusals.{status_of};
 ghost use Rattle.fq_app_words.specs.Requests.{asking_of, input_name};
 ghost use Rattle.fq_app_files.specs.Judging.{settings_of, wrong_with};
-ghost use Rattle.fq_app_files.specs.Trimming.{filed, AreMadeTold, KeepsUnnamed, opened_of, left_of, form_of, run_in, AreFresh};
+ghost use Rattle.fq_app_files.specs.Trimming.{filed, KeepsUnnamed, opened_of, left_of, form_of, run_in, AreFresh};
 ghost use Rattle.fq_app_files.specs.Opening.{AreReady, AreOpened, IsRefused, SparesInputs};
 ghost use Rattle.fq_app_files.specs.Completing.{IsCompleted, IsWitnessed};
 ghost use Rattle.fq_app_files.specs.Seeing.{IsReportError};
@@ -66,9 +66,7 @@ pub fn trim_files<R: Threads + Wait + Copy + Send + 'static, T: Files>(
         (filed (T.state files.old) (asking_of request.now))
         (T.state files.old).may_say completed.reported completed.report_error) }
 
-    ensures rest { AreMadeTold (filed (T.state files.old) (asking_of request.now))
-        (T.state files.old).tells
-        → KeepsUnnamed (filed (T.state files.old) (asking_of request.now))
+    ensures rest { KeepsUnnamed (filed (T.state files.old) (asking_of request.now))
         (T.state files.old).bytes (T.state files.new).bytes }
 
     // Refused memory, a refused thread and an unconfirmed lane have a witness, and the gate lets

@@ -1,6 +1,7 @@
 -- A run that was made, and what its files hold.
 use Rattle.std.proofs.Common.{◌≡◌, ◌≢◌, ◌⊎◌, ◌++◌, ◌∙◌, ℕ, IsTrue, Option, Some, None, is_some, Ok, List, [], refl, subst}
 use Rattle.fq_files.specs.Holding.{Holding}
+use Rattle.fq_files.specs.States.{Keys}
 use Rattle.fq_text.specs.declared.encoding.Encoding.{Encoding}
 use Rattle.fq_text.specs.Devices.{FeedState}
 use Rattle.fq_pair.specs.declared.side.Side.{Side}
@@ -29,7 +30,8 @@ use Rattle.fq_app_files.proofs.ReportingLemmas.{report_held, text_is}
 
 -- The feeds of a run have the bytes of their files, its outlets began empty, and the files of the
 -- outputs hold what the outlets have taken.
-pub record IsHeld (a : Asking) (c : Choices) (old new : Holding) (run : Run) : Type 0 where
+pub record IsHeld (a : Asking) (tells : Keys) (c : Choices) (old new : Holding) (run : Run) :
+    Type 0 where
   pub settings : settings_of a ≡ Ok c
   pub form : run.form ≡ a.inputs.form
   -- the bytes of the feeds are known to the proof
@@ -38,11 +40,11 @@ pub record IsHeld (a : Asking) (c : Choices) (old new : Holding) (run : Run) : T
   pub reverse_is : old a.inputs.reverse ≡ Some run.reverse.to_come
   -- there is an outlet for the trim log just if the request names one
   pub log : is_some run.outlets.log ≡ is_some a.log
-  pub empty : AreEmpty run.outlets
-  pub hold : HoldTaken a run.outlets_left new
+  pub empty : AreEmpty a tells run.outlets
+  pub hold : HoldTaken a tells run.outlets_left new
 
-module _ (a : Asking) (c : Choices) (old new : Holding) (run : Run)
-    (held : IsHeld a c old new run) where
+module _ (a : Asking) (tells : Keys) (c : Choices) (old new : Holding) (run : Run)
+    (held : IsHeld a tells c old new run) where
   trims_pairs : IsTrimmed c run →
       TrimsPairs c (pairs_of c a.inputs.form run.forward.to_come run.reverse.to_come) run.outlets
       run.outlets_left run.outcome run.counts
@@ -58,7 +60,7 @@ module _ (a : Asking) (c : Choices) (old new : Holding) (run : Run)
       })
 
   -- a run that trimmed all pairs trimmed all pairs of the files
-  pub trims_files : IsTrimmed c run → TrimsFiles a old new run.outcome run.counts
+  pub trims_files : IsTrimmed c run → TrimsFiles a tells old new run.outcome run.counts
   trims_files ended =
       let trimmed = trims_pairs ended in
       record {
@@ -68,7 +70,7 @@ module _ (a : Asking) (c : Choices) (old new : Holding) (run : Run)
         settings = held.settings;
         forward_is = held.forward_is;
         reverse_is = held.reverse_is;
-        texts = texts_held a run.outlets run.outlets_left
+        texts = texts_held a tells run.outlets run.outlets_left
             (λ out. text_of out (texts_of c.steps (pairs_of c a.inputs.form run.forward.to_come
             run.reverse.to_come).mates)) None new held.log held.empty trimmed.took held.hold;
         counts_are = trimmed.counts_are;
@@ -76,7 +78,7 @@ module _ (a : Asking) (c : Choices) (old new : Holding) (run : Run)
       }
 
   -- at any other ending the files hold the first pairs
-  pub first_pairs : EveryEnding c run → HoldFirstPairs a old new run.outcome
+  pub first_pairs : EveryEnding c run → HoldFirstPairs a tells old new run.outcome
   first_pairs every =
       let P : Form → Type 0 =
       λ form. TrimsFirst c (pairs_of c form run.forward.to_come run.reverse.to_come) run.outlets
@@ -91,7 +93,7 @@ module _ (a : Asking) (c : Choices) (old new : Holding) (run : Run)
         settings = held.settings;
         forward_is = held.forward_is;
         reverse_is = held.reverse_is;
-        texts = texts_held a run.outlets run.outlets_left
+        texts = texts_held a tells run.outlets run.outlets_left
             (λ out. text_of out (texts_of c.steps trimmed.whole) ++ part_begun c.steps trimmed.fate
             out) (failed_outlet trimmed.fate) new held.log held.empty trimmed.took held.hold;
         cut_short = trimmed.cut_short;

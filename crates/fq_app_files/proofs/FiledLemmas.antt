@@ -65,7 +65,7 @@ settings_filed files a = at_encoding (encoding_of a.encoding)
 -- outlets that keep their files still write those of their outputs
 pub theirs_after : (f : Asking) (files : FilesState) (before after : OutletStates) →
     KeepFiles before after → WriteTheirs f files before → WriteTheirs f files after
-theirs_after f files before after keep theirs out file outlet named at told =
+theirs_after f files before after keep theirs out file outlet named at =
     found (outlet_at out before) refl (ap (option_map (λ o. o.file)) (sym at) ∙ keep out)
   where
     found : (o : Option OutletState) → outlet_at out before ≡ o →
@@ -73,5 +73,5 @@ theirs_after f files before after keep theirs out file outlet named at told =
     found (Some first) there same =
         let own : first.file ≡ outlet.file = cc in
         subst (λ (number : Option ℕ). IsTrue (files.writes number file)) own
-        (theirs out file first named there told)
+        (theirs out file first named there)
     found None there same = absurd cc

@@ -2,7 +2,7 @@
 use Rattle.std.proofs.Common.{◌≡◌, ◌≢◌, ℕ, IsTrue, IsSome, Option, Some, None, List, [], ◌++◌, refl, sym, ap, subst, ◌∙◌, inl, inr, ◌⊎◌, ⊎_elim}
 use Rattle.std.proofs.lemmas.List.{append-nil}
 use Rattle.fq_files.specs.Holding.{Holding, IsUnchanged}
-use Rattle.fq_files.specs.States.{FilesState}
+use Rattle.fq_files.specs.States.{FilesState, Keys}
 use Rattle.fq_pair.specs.declared.counts.Counts.{Counts}
 use Rattle.fq_pair.specs.declared.fault.InputFault.{InputFault}
 use Rattle.fq_pair.specs.declared.out.Out.{Out}
@@ -79,21 +79,21 @@ tells_late inputs why.SameReport old forward reverse late first second =
     absurd (cc late)
 
 -- if something was refused, nothing was trimmed
-pub refusal_untrimmed : (a : Asking) (refusal : Refusal) (old new : Holding) →
-    RefusalLeaves a refusal old new → AreUntrimmed a old new
-refusal_untrimmed a why.Encoding old new left = λ out name named. inl (left name)
-refusal_untrimmed a (why.Step fault) old new left = λ out name named. inl (left name)
-refusal_untrimmed a (why.Setting bad) old new left = λ out name named. inl (left name)
-refusal_untrimmed a (why.SameName out) old new left = λ o name named. inl (left name)
-refusal_untrimmed a (why.Source side cause) old new left = λ out name named. inl (left name)
-refusal_untrimmed a (why.Target out cause) old new left =
-    ⊎_elim (λ stops. stops_untrimmed a out old new stops) (λ same out name named. inl (same name))
-    left
-refusal_untrimmed a why.SameReport old new left = λ out name named. inl (left name)
-refusal_untrimmed a (why.Report cause) old new left =
-    ⊎_elim (λ empty out name named. inr (empty out name named))
-    (λ same out name named. inl (same name)) left
-refusal_untrimmed a (why.Memory lacked) old new left = left
+pub refusal_untrimmed : (a : Asking) (tells : Keys) (refusal : Refusal) (old new : Holding) →
+    RefusalLeaves a tells refusal old new → AreUntrimmed a tells old new
+refusal_untrimmed a tells why.Encoding old new left = λ out name named told. inl (left name)
+refusal_untrimmed a tells (why.Step fault) old new left = λ out name named told. inl (left name)
+refusal_untrimmed a tells (why.Setting bad) old new left = λ out name named told. inl (left name)
+refusal_untrimmed a tells (why.SameName out) old new left = λ o name named told. inl (left name)
+refusal_untrimmed a tells (why.Source side cause) old new left = λ out name named told. inl (left name)
+refusal_untrimmed a tells (why.Target out cause) old new left =
+    ⊎_elim (λ stops. stops_untrimmed a tells out old new stops)
+    (λ same out name named told. inl (same name)) left
+refusal_untrimmed a tells why.SameReport old new left = λ out name named told. inl (left name)
+refusal_untrimmed a tells (why.Report cause) old new left =
+    ⊎_elim (λ empty out name named told. inr (empty out name named told))
+    (λ same out name named told. inl (same name)) left
+refusal_untrimmed a tells (why.Memory lacked) old new left = left
 
 -- what a refusal left, after calls that changed nothing
 pub unchanged_or_nothing : (old mid new : Option (List ℕ)) → mid ≡ old →
@@ -102,27 +102,28 @@ unchanged_or_nothing old mid new same (inl kept) = inl (kept ∙ same)
 unchanged_or_nothing old mid new same (inr nothing) = inr nothing
 
 -- what a refusal leaves of files that had not changed yet, it leaves of those at the start
-pub leaves_since : (a : Asking) (refusal : Refusal) (old mid new : Holding) → IsUnchanged old mid →
-    RefusalLeaves a refusal mid new → RefusalLeaves a refusal old new
-leaves_since a why.Encoding old mid new same left = λ name. left name ∙ same name
-leaves_since a (why.Step fault) old mid new same left = λ name. left name ∙ same name
-leaves_since a (why.Setting bad) old mid new same left = λ name. left name ∙ same name
-leaves_since a (why.SameName out) old mid new same left = λ name. left name ∙ same name
-leaves_since a (why.Source side cause) old mid new same left = λ name. left name ∙ same name
-leaves_since a (why.Target out cause) old mid new same left = ⊎_elim
+pub leaves_since : (a : Asking) (tells : Keys) (refusal : Refusal) (old mid new : Holding) →
+    IsUnchanged old mid → RefusalLeaves a tells refusal mid new →
+    RefusalLeaves a tells refusal old new
+leaves_since a tells why.Encoding old mid new same left = λ name. left name ∙ same name
+leaves_since a tells (why.Step fault) old mid new same left = λ name. left name ∙ same name
+leaves_since a tells (why.Setting bad) old mid new same left = λ name. left name ∙ same name
+leaves_since a tells (why.SameName out) old mid new same left = λ name. left name ∙ same name
+leaves_since a tells (why.Source side cause) old mid new same left = λ name. left name ∙ same name
+leaves_since a tells (why.Target out cause) old mid new same left = ⊎_elim
     (λ stops. inl (record {
       before = stops.before;
-      there = λ name named. unchanged_or_nothing (old name) (mid name) (new name) (same name)
-          (stops.there name named);
+      there = λ name named told. unchanged_or_nothing (old name) (mid name) (new name) (same name)
+          (stops.there name named told);
       after = λ name after. stops.after name after ∙ same name;
     }))
     (λ kept. inr (λ name. kept name ∙ same name)) left
-leaves_since a why.SameReport old mid new same left = λ name. left name ∙ same name
-leaves_since a (why.Report cause) old mid new same left =
+leaves_since a tells why.SameReport old mid new same left = λ name. left name ∙ same name
+leaves_since a tells (why.Report cause) old mid new same left =
     ⊎_elim (λ empty. inl empty) (λ kept. inr (λ name. kept name ∙ same name)) left
-leaves_since a (why.Memory lacked) old mid new same left =
-    λ out name named. unchanged_or_nothing (old name) (mid name) (new name) (same name)
-    (left out name named)
+leaves_since a tells (why.Memory lacked) old mid new same left =
+    λ out name named told. unchanged_or_nothing (old name) (mid name) (new name) (same name)
+    (left out name named told)
 
 -- ---- whole runs
 
@@ -135,9 +136,10 @@ not_written None out e = absurd (cc e)
 not_written (Some fault) out e = absurd (cc e)
 
 -- all pairs are their own first pairs
-pub whole_first : (a : Asking) (old new : Holding) (outcome : Outcome) (counts : Counts) →
-    TrimsFiles a old new outcome counts → HoldFirstPairs a old new outcome
-whole_first a old new outcome counts trims =
+pub whole_first : (a : Asking) (tells : Keys) (old new : Holding) (outcome : Outcome)
+    (counts : Counts) → TrimsFiles a tells old new outcome counts →
+    HoldFirstPairs a tells old new outcome
+whole_first a tells old new outcome counts trims =
     let all = pairs_of trims.choices a.inputs.form trims.forward trims.reverse in
     record {
       choices = trims.choices;
@@ -196,11 +198,12 @@ left_or_nothing (why.Report cause) old new left = left
 left_or_nothing (why.Memory lacked) old new left = left
 
 -- a refusal leaves in the file of the report what it held before, or nothing
-pub report_untrimmed : (a : Asking) (refusal : Refusal) (old new : Holding) →
-    RefusalLeaves a refusal old new → ((name : List ℕ) → a.report ≡ Some name → IsNoOutput a name →
-    ReportLeft refusal (old name) (new name))
-    → (name : List ℕ) → a.report ≡ Some name → (new name ≡ old name) ⊎ (new name ≡ Some [])
-report_untrimmed a refusal old new left report_left name named = ⊎_elim
-    (λ output. refusal_untrimmed a refusal old new left output.0 name output.1)
-    (λ free. left_or_nothing refusal (old name) (new name) (report_left name named free))
+pub report_untrimmed : (a : Asking) (tells : Keys) (refusal : Refusal) (old new : Holding) →
+    RefusalLeaves a tells refusal old new → ((name : List ℕ) → a.report ≡ Some name →
+    IsTrue (tells name) → IsNoOutput a name → ReportLeft refusal (old name) (new name)) →
+    (name : List ℕ) → a.report ≡ Some name → IsTrue (tells name) →
+    (new name ≡ old name) ⊎ (new name ≡ Some [])
+report_untrimmed a tells refusal old new left report_left name named told = ⊎_elim
+    (λ output. refusal_untrimmed a tells refusal old new left output.0 name output.1 told)
+    (λ free. left_or_nothing refusal (old name) (new name) (report_left name named told free))
     (output_or_none a name)

@@ -11,3 +11,4 @@ pub mod FailureLemmas
 pub mod CompletingLemmas
 pub mod OpeningLemmas
 pub mod SaidLemmas
+mod WorkedExamples

@@ -25,7 +25,7 @@ use Rattle.fq_app_files.specs.declared.refusal.Refusal.{Refusal}
 use Rattle.fq_app_files.specs.declared.refusal.Refusal.TheVariants as why
 use Rattle.fq_app_files.specs.Refusals.{status_of, IsMemory, IsRefusable, IsTarget, IsReport}
 use Rattle.fq_app_files.specs.Judging.{choices_of, judged, with_steps, with_encoding, settings_of, wrong_among, wrong_with}
-use Rattle.fq_app_files.specs.Trimming.{Opened, IsMade, IsNoOutput, KeepsUnnamed, AreFed, AreInputsTold, AreMadeTold, filed}
+use Rattle.fq_app_files.specs.Trimming.{Opened, IsMade, IsNoOutput, KeepsUnnamed, AreFed, AreInputsTold, filed}
 use Rattle.fq_app_files.specs.Leaving.{TellsInputs, RefusalLeaves, ReportLeft, is_late}
 use Rattle.fq_app_files.specs.Making.{Made, AreOutputsRefused, IsOutputRefused}
 use Rattle.fq_app_files.specs.Opening.{AreNoInputs, IsRefused, IsUnopened, MayLead, MayRefuseName}
@@ -50,10 +50,10 @@ pub refused_late : (a : Asking) (refusal : Refusal) (old new : FilesState) (inpu
     IsTrue (is_late refusal) → status_of refusal ≢ 2 →
     IsRefusable a (MayLead a.inputs old) refusal
     → AreFed inputs a.inputs old →
-    (AreMadeTold a old.tells → RefusalLeaves a refusal old.bytes new.bytes)
-    → (AreMadeTold a old.tells → (name : List ℕ) → a.report ≡ Some name → IsNoOutput a name →
+    RefusalLeaves a old.tells refusal old.bytes new.bytes →
+    ((name : List ℕ) → a.report ≡ Some name → IsTrue (old.tells name) → IsNoOutput a name →
     ReportLeft refusal (old.bytes name) (new.bytes name)) →
-    (AreMadeTold a old.tells → KeepsUnnamed a old.bytes new.bytes) → IsUnopened a refusal old new
+    KeepsUnnamed a old.bytes new.bytes → IsUnopened a refusal old new
 refused_late a refusal old new inputs after late refused fed left report_left
     rest = record {
       late = late;
@@ -177,33 +177,33 @@ first_refused a f why.Encoding files first =
     record {
       refused = tt;
       inputs = λ told. tt;
-      left = λ told name. refl;
+      left = λ name. refl;
       report_left =
-          λ told name named free. refl;
+          λ name named told free. refl;
     }
 first_refused a f (why.Step fault) files first =
     record {
       refused = tt;
       inputs = λ told. tt;
-      left = λ told name. refl;
+      left = λ name. refl;
       report_left =
-          λ told name named free. refl;
+          λ name named told free. refl;
     }
 first_refused a f (why.Setting bad) files first =
     record {
       refused = tt;
       inputs = λ told. tt;
-      left = λ told name. refl;
+      left = λ name. refl;
       report_left =
-          λ told name named free. refl;
+          λ name named told free. refl;
     }
 first_refused a f (why.SameName out) files first =
     record {
       refused = tt;
       inputs = λ told. tt;
-      left = λ told name. refl;
+      left = λ name. refl;
       report_left =
-          λ told name named free. refl;
+          λ name named told free. refl;
     }
 first_refused a f (why.Source side cause) files first = absurd (cc first)
 first_refused a f (why.Target out cause) files first = absurd (cc first)
@@ -211,9 +211,9 @@ first_refused a f why.SameReport files first =
     record {
       refused = tt;
       inputs = λ told. tt;
-      left = λ told name. refl;
+      left = λ name. refl;
       report_left =
-          λ told name named free. refl;
+          λ name named told free. refl;
     }
 first_refused a f (why.Report cause) files first = absurd (cc first)
 first_refused a f (why.Memory lacked) files first =
@@ -221,8 +221,8 @@ first_refused a f (why.Memory lacked) files first =
       refused = tt;
       inputs = λ told. tt;
       left =
-          λ told out name named. inl refl;
-      report_left = λ told name named free. inl refl;
+          λ out name named told. inl refl;
+      report_left = λ name named told free. inl refl;
     }
 
 -- the request was wrong

@@ -13,7 +13,7 @@ use Rattle.fq_run_core.specs.Endings.{ends_whole, failures_in}
 use Rattle.fq_app_words.specs.Requests.{Asking, InputNames, input_name, output_name}
 use Rattle.fq_app_files.specs.Faults.{settled}
 use Rattle.fq_app_files.specs.Judging.{settings_of}
-use Rattle.fq_app_files.specs.Trimming.{AreFilesTold, AreInputsTold, AreMadeTold, IsEmptyOutlet, KeepsUnnamed, TrimsFiles, WritesReport}
+use Rattle.fq_app_files.specs.Trimming.{AreInputsTold, IsEmptyOutlet, KeepsUnnamed, TrimsFiles, WritesReport}
 use Rattle.fq_app_files.specs.Leaving.{HoldFirstPairs}
 use Rattle.fq_app_files.specs.Reporting.{IsDue, IsNotDue, KeepsOutputs, ReportHeld, TookReport}
 use Rattle.fq_app_files.specs.Seeing.{IsItsError, IsSaid}
@@ -85,24 +85,27 @@ pub record IsReportStored (a f : Asking) (encoding : Encoding) (account : Accoun
 pub record IsCompleted (a f : Asking) (old new : FilesState)
     (outcome : Outcome) (counts : Counts) (reported : Reported) (seen : EndingSeen) : Type 0 where
   -- If it ended whole, all pairs were trimmed.
-  pub trims : AreFilesTold f old.tells →
-      IsTrue (ends_whole outcome) → TrimsFiles f old.bytes new.bytes outcome counts
+  pub trims : AreInputsTold f.inputs old.tells → IsTrue (ends_whole outcome) →
+      TrimsFiles f old.tells old.bytes new.bytes outcome counts
   -- At every ending except an unconfirmed lane, the files of the outputs hold the texts of the
   -- first pairs.
-  pub ended : AreFilesTold f old.tells →
-      outcome ≢ Lane → HoldFirstPairs f old.bytes new.bytes outcome
-  pub rest : AreMadeTold f old.tells → KeepsUnnamed f old.bytes new.bytes
+  pub ended : AreInputsTold f.inputs old.tells →
+      outcome ≢ Lane → HoldFirstPairs f old.tells old.bytes new.bytes outcome
+  pub rest : KeepsUnnamed f old.bytes new.bytes
   -- If the run ended whole, the report covers the pairs of the inputs; at other endings its file is
   -- empty.
   pub due : reported ≢ became.NotDue → IsDue outcome
   pub not_due : reported ≡ became.NotDue → IsSome a.report → IsNotDue outcome
   pub report : AreInputsTold f.inputs old.tells → (file : List ℕ) → f.report ≡ Some file →
       IsTrue (old.tells file) → ReportHeld reported a f old.bytes new.bytes file
+  pub unreported : reported ≡ became.NotDue → (file : List ℕ) → f.report ≡ Some file →
+      IsTrue (old.tells file) → new.bytes file ≡ Some []
   -- A failure that is reported is one of the device that the message names. If no failure is
   -- reported, no device has failed.
   pub failed : outcome ≢ Lane → HasFailed f old new outcome
   pub as_it_is : AreInputsTold f.inputs old.tells → settled outcome ≡ outcome
-  pub said : AreFilesTold f old.tells → IsSaid old.looks f old.bytes (settled outcome) seen
+  pub said : AreInputsTold f.inputs old.tells →
+      IsSaid old.looks f old.bytes (settled outcome) seen
   pub its_error : IsItsError f old.may_say outcome seen
   pub report_failed : reported ≡ became.Failed → ReportFailed f new
   pub sound : IsTrue (ends_whole outcome) → reported ≢ became.Failed →

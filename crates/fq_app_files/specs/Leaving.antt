@@ -1,7 +1,7 @@
 -- What the files of the outputs hold if the program does not end whole.
 use Rattle.std.specs.Prelude.{◌≡◌, ◌<◌, ◌≤◌, ◌⊎◌, ℕ, Bool, true, false, Option, Some, IsSome, IsTrue, Ok, List, [], ◌++◌}
 use Rattle.fq_files.specs.Holding.{Holding, IsUnchanged}
-use Rattle.fq_files.specs.States.{FilesState, MayRefuse, MayRefuseInput}
+use Rattle.fq_files.specs.States.{FilesState, Keys, MayRefuse, MayRefuseInput}
 use Rattle.fq_files.specs.declared.files.Cause.TheVariants as cause
 use Rattle.fq_pair.specs.declared.out.Out.{Out}
 use Rattle.fq_pair.specs.declared.side.Side.TheVariants as side
@@ -32,7 +32,8 @@ pub record IsTold (whole : List Mates) (fate : Fate) (ended : Outcome) : Type 0 
 -- The file of each output that has a name of its own holds a first part of the text that is defined
 -- for the bytes of the inputs and for the settings. All hold the same pairs, except in the block in
 -- which a write failed.
-pub record HoldFirstPairs (a : Asking) (old new : Holding) (ended : Outcome) : Type 0 where
+pub record HoldFirstPairs (a : Asking) (tells : Keys) (old new : Holding)
+    (ended : Outcome) : Type 0 where
   pub choices : Choices
   pub forward : List ℕ
   pub reverse : List ℕ
@@ -41,7 +42,7 @@ pub record HoldFirstPairs (a : Asking) (old new : Holding) (ended : Outcome) : T
   pub settings : settings_of a ≡ Ok choices
   pub forward_is : old a.inputs.forward ≡ Some forward
   pub reverse_is : old a.inputs.reverse ≡ Some reverse
-  pub texts : (out : Out) (name : List ℕ) → HasOwnName a out name →
+  pub texts : (out : Out) (name : List ℕ) → HasOwnName a tells out name →
       new name ≡ Some (text_of out (texts_of choices.steps whole)
       ++ part_begun choices.steps fate out)
   pub cut_short : IsCutShort choices.block_pairs choices.steps fate
@@ -51,32 +52,34 @@ pub record HoldFirstPairs (a : Asking) (old new : Holding) (ended : Outcome) : T
 
 -- If trimming had not begun.
 
--- the file of each output holds what it held before, or nothing
-abbrev pub AreUntrimmed : Asking → Holding → Holding → Type 0
-AreUntrimmed a old new = (out : Out) (name : List ℕ) →
-    output_name a out ≡ Some name → (new name ≡ old name) ⊎ (new name ≡ Some [])
+-- the file of each output whose bytes are known holds what it held before, or nothing
+abbrev pub AreUntrimmed : Asking → Keys → Holding → Holding → Type 0
+AreUntrimmed a tells old new = (out : Out) (name : List ℕ) → output_name a out ≡ Some name →
+    IsTrue (tells name) → (new name ≡ old name) ⊎ (new name ≡ Some [])
 
--- an output could not be made: those before it are empty, and a name that only those after it have,
--- or none, holds what it held
-pub record StopsAt (a : Asking) (out : Out) (old new : Holding) : Type 0 where
-  pub before : (other : Out) (name : List ℕ) →
-      output_name a other ≡ Some name → place other < place out → new name ≡ Some []
-  pub there : (name : List ℕ) → output_name a out ≡ Some name →
+-- an output could not be made: those before it whose bytes are known are empty, and a name that
+-- only those after it have, or none, holds what it held
+pub record StopsAt (a : Asking) (tells : Keys) (out : Out) (old new : Holding) : Type 0 where
+  pub before : (other : Out) (name : List ℕ) → output_name a other ≡ Some name →
+      IsTrue (tells name) → place other < place out → new name ≡ Some []
+  pub there : (name : List ℕ) → output_name a out ≡ Some name → IsTrue (tells name) →
       (new name ≡ old name) ⊎ (new name ≡ Some [])
   pub after : (name : List ℕ) → ((other : Out) →
       output_name a other ≡ Some name → place out < place other) → new name ≡ old name
 
--- the outputs are empty
-abbrev pub AreEmptied : Asking → Holding → Type 0
-AreEmptied a new = (out : Out) (name : List ℕ) → output_name a out ≡ Some name → new name ≡ Some []
+-- the outputs whose bytes are known are empty
+abbrev pub AreEmptied : Asking → Keys → Holding → Type 0
+AreEmptied a tells new = (out : Out) (name : List ℕ) → output_name a out ≡ Some name →
+    IsTrue (tells name) → new name ≡ Some []
 
 -- What a refusal leaves in the outputs. If the report could not be made, they are empty. If the
 -- output or the report leads to an input, nothing has changed.
-abbrev pub RefusalLeaves : Asking → Refusal → Holding → Holding → Type 0
-RefusalLeaves a (why.Target out cause) old new = StopsAt a out old new ⊎ IsUnchanged old new
-RefusalLeaves a (why.Report cause) old new = AreEmptied a new ⊎ IsUnchanged old new
-RefusalLeaves a (why.Memory refused) old new = AreUntrimmed a old new
-RefusalLeaves a _ old new = IsUnchanged old new
+abbrev pub RefusalLeaves : Asking → Keys → Refusal → Holding → Holding → Type 0
+RefusalLeaves a tells (why.Target out cause) old new =
+    StopsAt a tells out old new ⊎ IsUnchanged old new
+RefusalLeaves a tells (why.Report cause) old new = AreEmptied a tells new ⊎ IsUnchanged old new
+RefusalLeaves a tells (why.Memory refused) old new = AreUntrimmed a tells old new
+RefusalLeaves a tells _ old new = IsUnchanged old new
 
 -- what a refusal leaves in the report's file: what it held before, or nothing if the report itself
 -- or memory was refused
@@ -120,7 +123,8 @@ is_late _ = false
 
 -- Whether trimming had begun or not.
 
--- The files of the outputs hold what they held before, or nothing, or first parts of the defined
--- texts for the same pairs.
-abbrev pub AreLeft : Asking → Holding → Holding → Type 0
-AreLeft a old new = AreUntrimmed a old new ⊎ ((ended : Outcome) × HoldFirstPairs a old new ended)
+-- The files of the outputs whose bytes are known hold what they held before, or nothing, or first
+-- parts of the defined texts for the same pairs.
+abbrev pub AreLeft : Asking → Keys → Holding → Holding → Type 0
+AreLeft a tells old new = AreUntrimmed a tells old new
+    ⊎ ((ended : Outcome) × HoldFirstPairs a tells old new ended)

@@ -2,41 +2,43 @@
 -- of `Out`.
 use Rattle.std.specs.Prelude.{◌≡◌, ◌≢◌, ◌⊎◌, ◌<◌, ◌≤◌, ℕ, suc, IsTrue, is_some, Some, List, []}
 use Rattle.fq_files.specs.Holding.{Holding}
-use Rattle.fq_files.specs.States.{FilesState, KeepsFailed, MayRefuse}
+use Rattle.fq_files.specs.States.{FilesState, Keys, KeepsFailed, MayRefuse}
 use Rattle.fq_pair.specs.declared.out.Out.{Out}
 use Rattle.fq_text.specs.Devices.{OutletState}
 use Rattle.fq_run_core.specs.Devices.{OutletStates, AreFlushed, AreHealthy, outlet_at, place}
 use Rattle.fq_app_words.specs.Requests.{Asking, output_name}
 use Rattle.fq_app_files.specs.declared.refusal.Refusal.{Refusal}
 use Rattle.fq_app_files.specs.Refusals.{status_of, IsMemory, IsRefusable, IsTarget}
-use Rattle.fq_app_files.specs.Trimming.{HasOwnName, KeepsRest, AreEmpty, AreMadeTold, IsEmptyOutlet, WriteTheirs}
+use Rattle.fq_app_files.specs.Trimming.{HasOwnName, KeepsRest, AreEmpty, AreHeld, IsEmptyOutlet, WriteTheirs}
 use Rattle.fq_app_files.specs.Leaving.{RefusalLeaves, is_late}
 
--- the first n outputs have been made, and a name that only the others have, or none, is unchanged
-pub record AreMade (a : Asking) (start : Holding) (n : ℕ) (files : Holding) : Type 0 where
-  pub empty : (out : Out) (name : List ℕ) →
-      output_name a out ≡ Some name → place out < n → files name ≡ Some []
+-- the first n outputs have been made, those whose bytes are known are empty, and a name that only
+-- the others have, or none, is unchanged
+pub record AreMade (a : Asking) (tells : Keys) (start : Holding) (n : ℕ) (files : Holding) :
+    Type 0 where
+  pub empty : (out : Out) (name : List ℕ) → output_name a out ≡ Some name →
+      IsTrue (tells name) → place out < n → files name ≡ Some []
   pub kept : (name : List ℕ) → ((out : Out) →
       output_name a out ≡ Some name → n ≤ place out) → files name ≡ start name
 
 -- an output could not be made
-pub record StopsMaking (a : Asking) (why : Refusal) (start files : Holding) : Type 0 where
+pub record StopsMaking (a : Asking) (tells : Keys) (why : Refusal) (start files : Holding) :
+    Type 0 where
   pub rest : KeepsRest a start files
-  pub leaves : RefusalLeaves a why start files
+  pub leaves : RefusalLeaves a tells why start files
 
--- the first n outputs have been made, if the bytes of all files that are made are known
 abbrev pub Made : Asking → Holding → ℕ → FilesState → Type 0
-Made a start n files = AreMadeTold a files.tells → AreMade a start n files.bytes
+Made a start n files = AreMade a files.tells start n files.bytes
 
 abbrev pub Unmade : Asking → Refusal → Holding → FilesState → Type 0
-Unmade a why start files = AreMadeTold a files.tells → StopsMaking a why start files.bytes
+Unmade a why start files = StopsMaking a files.tells why start files.bytes
 
--- All outputs have been made: each is empty, and its outlet has not failed and has taken nothing.
+-- All outputs have been made: no outlet has failed, and those whose bytes are known are empty.
 pub record AreOutputsMade (a : Asking)
     (old new : FilesState) (outlets : OutletStates) : Type 0 where
   pub healthy : AreHealthy outlets
   pub log : is_some outlets.log ≡ is_some a.log
-  pub empty : AreMadeTold a old.tells → AreEmpty outlets
+  pub empty : AreEmpty a old.tells outlets
   pub theirs : WriteTheirs a old outlets
   pub made : Made a old.bytes 5 new
 
@@ -51,8 +53,9 @@ pub record AreOutputsRefused (a : Asking) (why : Refusal) (old new : FilesState)
 pub record IsOutputMade (a : Asking) (out : Out)
     (old new : FilesState) (outlet : OutletState) : Type 0 where
   pub fresh : outlet.failures ≡ 0
-  pub empty : AreMadeTold a old.tells → IsEmptyOutlet outlet
-  pub theirs : (file : List ℕ) → output_name a out ≡ Some file → IsTrue (old.tells file) →
+  pub empty : (file : List ℕ) → output_name a out ≡ Some file → IsTrue (old.tells file) →
+      IsEmptyOutlet outlet
+  pub theirs : (file : List ℕ) → output_name a out ≡ Some file →
       IsTrue (old.writes outlet.file file)
   pub made : (start : Holding) → Made a start (place out) old → Made a start (suc (place out)) new
 
@@ -65,21 +68,23 @@ pub record IsOutputRefused (a : Asking) (out : Out)
   pub after : IsTrue (is_late why)
 
 -- those of the first n outputs that have a name of their own hold what their outlets have taken
-abbrev pub HoldFirst : ℕ → Asking → OutletStates → Holding → Type 0
-HoldFirst n a states files = (out : Out) (name : List ℕ) (outlet : OutletState) → place out < n →
-    HasOwnName a out name → outlet_at out states ≡ Some outlet → files name ≡ Some outlet.taken
+abbrev pub HoldFirst : ℕ → Asking → Keys → OutletStates → Holding → Type 0
+HoldFirst n a tells states files = (out : Out) (name : List ℕ) (outlet : OutletState) →
+    place out < n → HasOwnName a tells out name → outlet_at out states ≡ Some outlet →
+    files name ≡ Some outlet.taken
 
 -- the outlets of the first n outputs have been handed back
-pub record AreStored (a : Asking) (start : Holding)
+pub record AreStored (a : Asking) (tells : Keys) (start : Holding)
     (states : OutletStates) (n : ℕ) (files : Holding) : Type 0 where
   pub rest : KeepsRest a start files
-  pub hold : HoldFirst n a states files
+  pub held : AreHeld a tells files
+  pub hold : HoldFirst n a tells states files
 
--- the outlets of the first n outputs have been handed back, if the bytes of all files that are made
--- are known and each outlet writes its file
+-- the outlets of the first n outputs have been handed back, if the files of the outputs existed and
+-- each outlet is one of its file
 abbrev pub Stored : Asking → Holding → OutletStates → ℕ → FilesState → Type 0
-Stored a start states n files = AreMadeTold a files.tells → WriteTheirs a files states →
-    AreStored a start states n files.bytes
+Stored a start states n files = AreHeld a files.tells start → WriteTheirs a files states →
+    AreStored a files.tells start states n files.bytes
 
 -- the first n outlets of the outputs were handed back
 pub record AreCounted (a : Asking)

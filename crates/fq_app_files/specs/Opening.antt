@@ -12,7 +12,7 @@ use Rattle.fq_app_words.specs.Requests.{Asking, InputNames, input_name, is_input
 use Rattle.fq_app_files.specs.declared.refusal.Refusal.{Refusal}
 use Rattle.fq_app_files.specs.declared.refusal.Refusal.TheVariants as refusal
 use Rattle.fq_app_files.specs.Refusals.{status_of, IsMemory, IsRefusable, IsReport}
-use Rattle.fq_app_files.specs.Trimming.{Opened, IsMade, IsNoOutput, KeepsUnnamed, AreInputsTold, AreMadeTold, IsFed, AreFresh, AreFed, AreEmpty, IsEmptyOutlet, AreHeld, WriteTheirs, WritesReport}
+use Rattle.fq_app_files.specs.Trimming.{Opened, IsMade, IsNoOutput, KeepsUnnamed, AreInputsTold, IsFed, AreFresh, AreFed, AreEmpty, IsEmptyOutlet, AreHeld, WriteTheirs, WritesReport}
 use Rattle.fq_app_files.specs.Leaving.{TellsInputs, RefusalLeaves, ReportLeft, is_early}
 use Rattle.fq_app_files.specs.Reporting.{IsReportOpen}
 
@@ -58,18 +58,17 @@ pub record IsReportRefused (a : Asking) (why : Refusal) (old new : FilesState) :
   pub left : (name : List ℕ) → a.report ≡ Some name → IsTrue (old.tells name) →
       (new.bytes name ≡ old.bytes name) ⊎ (new.bytes name ≡ Some [])
 
--- Everything that a run needs is open: no device has failed and the outputs exist. If the bytes of
--- the files that are made are known to the proof, those of the outlets are too, and the outlets are
--- empty.
+-- Everything that a run needs is open: no device has failed. Each output whose bytes are known to
+-- the proof exists, and its outlet tells its bytes and is empty.
 pub record AreReady (a : Asking) (files : FilesState)
     (inputs : Opened) (outlets : OutletStates) (report : Option OutletState) : Type 0 where
   pub form : inputs.form ≡ a.inputs.form
   pub fresh : AreFresh inputs
   pub healthy : AreHealthy outlets
   pub log : is_some outlets.log ≡ is_some a.log
-  pub empty : AreMadeTold a files.tells → AreEmpty outlets
+  pub empty : AreEmpty a files.tells outlets
   pub theirs : WriteTheirs a files outlets
-  pub held : AreMadeTold a files.tells → AreHeld a files.bytes
+  pub held : AreHeld a files.tells files.bytes
   pub report_made : IsReportMade a files report
 
 -- no file of an input is that of an output or of the report
@@ -83,7 +82,7 @@ pub record AreOpened (a : Asking) (old new : FilesState)
   pub ready : AreReady a new inputs outlets report
   pub fed : AreFed inputs a.inputs old
   pub apart : AreInputsTold a.inputs old.tells → AreNoInputs a
-  pub rest : AreMadeTold a old.tells → KeepsUnnamed a old.bytes new.bytes
+  pub rest : KeepsUnnamed a old.bytes new.bytes
 
 -- A file may be refused for this cause once these inputs are opened: it is that of one, and that is
 -- the cause; or it might have been before.
@@ -114,8 +113,8 @@ AreApart a files = (out : Out) (name : List ℕ) → output_name a out ≡ Some 
 pub record IsRefused (a f : Asking) (why : Refusal) (old new : FilesState) : Type 0 where
   pub refused : IsRefusable a (MayRefuseName a.inputs f.inputs old) why
   pub inputs : AreInputsTold f.inputs old.tells → TellsInputs f.inputs why old
-  pub left : AreMadeTold f old.tells → RefusalLeaves f why old.bytes new.bytes
-  pub report_left : AreMadeTold f old.tells → (file : List ℕ) → f.report ≡ Some file →
+  pub left : RefusalLeaves f old.tells why old.bytes new.bytes
+  pub report_left : (file : List ℕ) → f.report ≡ Some file → IsTrue (old.tells file) →
       IsNoOutput f file → ReportLeft why (old.bytes file) (new.bytes file)
 
 -- A file or memory was refused after the request was checked.
@@ -123,9 +122,9 @@ pub record IsUnopened (a : Asking) (why : Refusal) (old new : FilesState) : Type
   pub late : status_of why ≢ 2
   pub refused : IsRefusable a (MayLead a.inputs old) why
   pub inputs : AreInputsTold a.inputs old.tells → TellsInputs a.inputs why old
-  pub left : AreMadeTold a old.tells → RefusalLeaves a why old.bytes new.bytes
-  pub report_left : AreMadeTold a old.tells → (name : List ℕ) → a.report ≡ Some name →
+  pub left : RefusalLeaves a old.tells why old.bytes new.bytes
+  pub report_left : (name : List ℕ) → a.report ≡ Some name → IsTrue (old.tells name) →
       IsNoOutput a name → ReportLeft why (old.bytes name) (new.bytes name)
-  pub rest : AreMadeTold a old.tells → KeepsUnnamed a old.bytes new.bytes
+  pub rest : KeepsUnnamed a old.bytes new.bytes
   pub unopened : (side : Side) → IsTrue (old.tells (input_name a.inputs side)) →
       old.bytes (input_name a.inputs side) ≡ None → IsUnchanged old.bytes new.bytes

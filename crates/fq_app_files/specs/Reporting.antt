@@ -19,7 +19,7 @@ use Rattle.fq_report.specs.Reports.{text_of}
 use Rattle.fq_app_words.specs.Requests.{Asking}
 use Rattle.fq_app_files.specs.Faults.{settled, outcome_status, input_words}
 use Rattle.fq_app_files.specs.Judging.{settings_of}
-use Rattle.fq_app_files.specs.Trimming.{pairs_of, AreMadeTold}
+use Rattle.fq_app_files.specs.Trimming.{pairs_of}
 use Rattle.fq_app_files.specs.declared.account.Account.{Account}
 use Rattle.fq_app_files.specs.declared.reporting.Reported.{Reported}
 use Rattle.fq_app_files.specs.declared.reporting.Reported.TheVariants.{NotDue, Written, Failed}
@@ -108,8 +108,7 @@ pub record IsReportOpen (a : Asking)
 
 -- each name that is not the report's holds what it held before
 abbrev pub KeepsOutputs : Asking → FilesState → FilesState → Type 0
-KeepsOutputs a old new = AreMadeTold a old.tells → (name : List ℕ) →
-    a.report ≢ Some name → new.bytes name ≡ old.bytes name
+KeepsOutputs a old new = (name : List ℕ) → a.report ≢ Some name → new.bytes name ≡ old.bytes name
 
 -- the text of the report of a run that has a tally
 pub record IsTextOf (a : Asking) (encoding : Encoding)

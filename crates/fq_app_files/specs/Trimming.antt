@@ -33,19 +33,11 @@ IsMade a name = ((out : Out) × (output_name a out ≡ Some name)) ⊎ (a.report
 abbrev pub AreInputsTold : InputNames → Keys → Type 0
 AreInputsTold inputs tells = IsTrue (tells inputs.forward) × IsTrue (tells inputs.reverse)
 
--- the bytes of each output and of the report are known to the proof
-abbrev pub AreMadeTold : Asking → Keys → Type 0
-AreMadeTold a tells = (file : List ℕ) → IsMade a file → IsTrue (tells file)
-
--- the bytes of each file that was asked for are known to the proof
-pub record AreFilesTold (a : Asking) (tells : Keys) : Type 0 where
-  pub inputs : AreInputsTold a.inputs tells
-  pub made : AreMadeTold a tells
-
 -- this is the name of this output, and of no other file that is made: neither of another output nor
--- of the report
-pub record HasOwnName (a : Asking) (out : Out) (name : List ℕ) : Type 0 where
+-- of the report; and the bytes of its file are known to the proof
+pub record HasOwnName (a : Asking) (tells : Keys) (out : Out) (name : List ℕ) : Type 0 where
   pub named : output_name a out ≡ Some name
+  pub told : IsTrue (tells name)
   pub outputs : (other : Out) → output_name a other ≡ Some name → other ≡ out
   pub report : a.report ≢ Some name
 
@@ -62,31 +54,32 @@ abbrev pub KeepsUnnamed : Asking → Holding → Holding → Type 0
 KeepsUnnamed a old new = (name : List ℕ) → IsNoOutput a name →
     a.report ≢ Some name → new name ≡ old name
 
--- the file of each output exists
-abbrev pub AreHeld : Asking → Holding → Type 0
-AreHeld a files = (out : Out) (name : List ℕ) → output_name a out ≡ Some name → IsSome (files name)
+-- the file of each output exists, if its bytes are known
+abbrev pub AreHeld : Asking → Keys → Holding → Type 0
+AreHeld a tells files = (out : Out) (name : List ℕ) → output_name a out ≡ Some name →
+    IsTrue (tells name) → IsSome (files name)
 
 -- an outlet whose bytes are known to the proof, and that has taken none
 pub record IsEmptyOutlet (outlet : OutletState) : Type 0 where
   pub tells : IsSome outlet.file
   pub taken : outlet.taken ≡ []
 
--- the bytes of each outlet are known, and it has taken none
-abbrev pub AreEmpty : OutletStates → Type 0
-AreEmpty outlets = (out : Out) (outlet : OutletState) →
-    outlet_at out outlets ≡ Some outlet → IsEmptyOutlet outlet
+-- the outlet of each output whose bytes are known tells its bytes, and has taken none
+abbrev pub AreEmpty : Asking → Keys → OutletStates → Type 0
+AreEmpty a tells outlets = (out : Out) (name : List ℕ) (outlet : OutletState) →
+    output_name a out ≡ Some name → IsTrue (tells name) → outlet_at out outlets ≡ Some outlet →
+    IsEmptyOutlet outlet
 
--- what each outlet takes is in the file of its output once the outlet is handed back, if the bytes
--- of the file are known
+-- each outlet is one of the file of its output
 abbrev pub WriteTheirs : Asking → FilesState → OutletStates → Type 0
 WriteTheirs a files outlets = (out : Out) (file : List ℕ) (outlet : OutletState) →
     output_name a out ≡ Some file → outlet_at out outlets ≡ Some outlet →
-    IsTrue (files.tells file) → IsTrue (files.writes outlet.file file)
+    IsTrue (files.writes outlet.file file)
 
 -- so it is with the outlet of the report
 abbrev pub WritesReport : Asking → FilesState → Option OutletState → Type 0
 WritesReport a files report = (file : List ℕ) (outlet : OutletState) → a.report ≡ Some file →
-    report ≡ Some outlet → IsTrue (files.tells file) → IsTrue (files.writes outlet.file file)
+    report ≡ Some outlet → IsTrue (files.writes outlet.file file)
 
 -- the bytes of an input are known, and are those of its file
 pub record IsFed (tells : Bool) (to_come : List ℕ) (bytes : Option (List ℕ)) : Type 0 where
@@ -156,7 +149,7 @@ pub record TrimsPairs (c : Choices) (all : Pairs)
 -- The pairs of the inputs were trimmed one after the other. The file of each output that has a name
 -- of its own holds the text that is defined for the bytes of the inputs and for the settings, and
 -- the counts and the outcome are the defined ones.
-pub record TrimsFiles (a : Asking) (old new : Holding)
+pub record TrimsFiles (a : Asking) (tells : Keys) (old new : Holding)
     (outcome : Outcome) (counts : Counts) : Type 0 where
   pub choices : Choices
   pub forward : List ℕ
@@ -164,7 +157,7 @@ pub record TrimsFiles (a : Asking) (old new : Holding)
   pub settings : settings_of a ≡ Ok choices
   pub forward_is : old a.inputs.forward ≡ Some forward
   pub reverse_is : old a.inputs.reverse ≡ Some reverse
-  pub texts : (out : Out) (name : List ℕ) → HasOwnName a out name →
+  pub texts : (out : Out) (name : List ℕ) → HasOwnName a tells out name →
       new name ≡ Some (text_of out
       (texts_of choices.steps (pairs_of choices a.inputs.form forward reverse).mates))
   pub counts_are : counts ≡ counts_of choices.steps

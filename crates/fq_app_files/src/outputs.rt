@@ -4,7 +4,7 @@ ghost use Rattle.std.specs.Prelude.{IsSome, IfOk, IfErr};
 ghost use Rattle.fq_files.specs.States.{MaySay, OnlyStores, OnlyWrites, StillHeld, TellsWhy};
 ghost use Rattle.fq_run_core.specs.Devices.{outlet_states};
 ghost use Rattle.fq_app_words.specs.Requests.{asking_of, output_name};
-ghost use Rattle.fq_app_files.specs.Trimming.{filed, AreHeld, AreMadeTold};
+ghost use Rattle.fq_app_files.specs.Trimming.{filed};
 ghost use Rattle.fq_app_files.specs.Seeing.{OutputsMaySay, OutputsTellWhy};
 ghost use Rattle.fq_app_files.specs.Making.{AreOutputsMade, AreOutputsRefused, AreOutputsStored, IsOutputMade, IsOutputRefused, IsOutputStored};
 
@@ -73,9 +73,6 @@ pub fn store<T: Files>(
     files: &mut T,
     outlets: Outlets<T::Target>,
 ) -> Outlets<Option<SystemError>>
-    requires { AreMadeTold (filed (T.state files.old) (asking_of request.now))
-        (T.state files.old).tells
-        → AreHeld (filed (T.state files.old) (asking_of request.now)) (T.state files.old).bytes }
     ensures stored { AreOutputsStored (filed (T.state files.old) (asking_of request.now))
         (outlet_states T.Target.state outlets) (T.state files.old) (T.state files.new) }
     ensures says { OutputsMaySay (filed (T.state files.old) (asking_of request.now))
@@ -116,13 +113,7 @@ fn store_one<T: Files>(
     out: Out,
     outlet: T::Target,
 ) -> Option<SystemError>
-    requires wanted { IsSome (output_name (filed (T.state files.old) (asking_of request.now)) out) }
-    requires held { AreMadeTold (filed (T.state files.old) (asking_of request.now))
-        (T.state files.old).tells
-        → AreHeld (filed (T.state files.old) (asking_of request.now)) (T.state files.old).bytes }
-    ensures held { AreMadeTold (filed (T.state files.new) (asking_of request.now))
-        (T.state files.new).tells
-        → AreHeld (filed (T.state files.new) (asking_of request.now)) (T.state files.new).bytes }
+    requires { IsSome (output_name (filed (T.state files.old) (asking_of request.now)) out) }
     ensures stored { IsOutputStored (filed (T.state files.old) (asking_of request.now)) out
         (T.Target.state outlet) (T.state files.old) (T.state files.new) }
     ensures says { MaySay (T.state files.old).may_say

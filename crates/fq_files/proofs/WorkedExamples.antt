@@ -1,6 +1,6 @@
 -- Device numbers, as the C library's `makedev` makes them, and files by key.
 use Rattle.std.proofs.Common.{◌≡◌, refl, ℕ, suc, zero, nat_eq, true, false, Some, None, [], ◌∷◌}
-use Rattle.fq_files.specs.ByKey.{bytes_in, told}
+use Rattle.fq_files.specs.ByKey.{bytes_in, told, writes_on}
 use Rattle.fq_files.specs.Devices.{device_of}
 use Rattle.fq_files.specs.Disks.{DiskState, Inode, absent_inode, new_inode}
 use Rattle.fq_files.specs.MemoryDisks.{disk_state_of}
@@ -63,3 +63,16 @@ beside_a_pipe disk = refl
 
 of_the_pipe : (disk : MemoryDisk) → told (with_pipe disk) (1 ∷ []) ≡ false
 of_the_pipe disk = refl
+
+-- An outlet without a number is one of the pipe, and of no regular file. One of inode 0 is not.
+of_the_pipe_too : (disk : MemoryDisk) → writes_on (with_pipe disk) None (1 ∷ []) ≡ true
+of_the_pipe_too disk = refl
+
+of_no_regular : (disk : MemoryDisk) → writes_on (with_pipe disk) None (0 ∷ []) ≡ false
+of_no_regular disk = refl
+
+of_its_own : (disk : MemoryDisk) → writes_on (with_pipe disk) (Some 0) (0 ∷ []) ≡ true
+of_its_own disk = refl
+
+not_the_pipe : (disk : MemoryDisk) → writes_on (with_pipe disk) (Some 0) (1 ∷ []) ≡ false
+not_the_pipe disk = refl

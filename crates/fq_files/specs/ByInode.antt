@@ -38,7 +38,8 @@ pub record IsSource (disk : DiskState) (inputs now : List ℕ) (name : List ℕ)
   pub given : IsRegular disk inode → feed.to_come ≡ (disk.at inode).bytes
 
 -- the outlet of what this name leads to: the inode was no input, and if it is a regular file, it
--- was no output, is one now, and is empty; the outlet has its number, and has taken nothing
+-- was no output, is one now, and is empty; the outlet has its number, and has taken nothing; the
+-- outlet of another file has that number or none
 pub record IsTarget (old new : DiskState) (inputs outputs now : List ℕ) (name : List ℕ)
     (outlet : OutletState) : Type 0 where
   pub inode : ℕ
@@ -50,6 +51,7 @@ pub record IsTarget (old new : DiskState) (inputs outputs now : List ℕ) (name 
   pub emptied : IsRegular new inode → (new.at inode).bytes ≡ []
   pub telling : IsRegular new inode → outlet.file ≡ Some inode
   pub nothing : IsRegular new inode → outlet.taken ≡ []
+  pub own : (i : ℕ) → outlet.file ≡ Some i → i ≡ inode
 
 -- each of these inodes that is there is as it was
 abbrev pub KeepsThese : List ℕ → DiskState → DiskState → Type 0

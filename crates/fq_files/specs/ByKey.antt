@@ -36,6 +36,16 @@ is_input (System error) = false
 abbrev pub told : DiskState → List ℕ → Bool
 told disk file = disk.tells && by_key true disk.is_plain file
 
+-- What the inodes hold, if the disk tells.
+abbrev pub bytes_of : DiskState → Holding
+bytes_of disk file = if disk.tells then bytes_in disk.at file else None
+
+-- An outlet of this number is one of the file of this key: it has the number of that inode, or it
+-- has none and the inode is no regular file.
+abbrev pub writes_on : DiskState → Option ℕ → List ℕ → Bool
+writes_on disk (Some i) file = not disk.tells || bytes_eq (i ∷ []) file
+writes_on disk None file = not disk.tells || by_key true (λ i. not (disk.is_plain i)) file
+
 -- Files of a disk with these inputs. If the disk tells, only an input is refused because it is one,
 -- whatever kind of file that is. A failure counts for every file, and so does a target that was not
 -- flushed.
@@ -44,10 +54,10 @@ files_state_of disk inputs has_failed has_unflushed = record {
   leads = λ name. key_of (disk.inode_of name);
   tells = told disk;
   looks = false;
-  bytes = bytes_in disk.at;
+  bytes = bytes_of disk;
   refuses = λ file cause. not disk.tells || not (is_input cause);
   may_say = λ file error. true;
-  writes = λ number file. bytes_eq (key_of number) file;
+  writes = writes_on disk;
   is_open = λ file. not disk.tells || by_key false (is_in inputs) file;
   has_failed = λ file. has_failed;
   is_unflushed = λ file. has_unflushed;

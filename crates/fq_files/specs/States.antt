@@ -26,7 +26,8 @@ pub record FilesState : Type 0 where
   pub tells : Keys
   -- Whether it is known to the proof what files look like. This never changes.
   pub looks : Bool
-  -- The bytes of each file that is there.
+  -- The bytes of each file that is there. Of a file whose bytes are not known to the proof only
+  -- this is said, that calls for other files leave them.
   pub bytes : Holding
   -- For which causes this file may be refused as an output, if memory isn't, or as an input
   -- although it is there. For the cause `Input` it may be an input already under a name of another
@@ -35,8 +36,9 @@ pub record FilesState : Type 0 where
   -- Which errors of the system a device of this file may say once it has failed, or this file if it
   -- is refused as an input. This never changes.
   pub may_say : Errors
-  -- Whether what an outlet of this number has taken is in this file once the outlet is handed back
-  -- under a name of it. This never changes.
+  -- Whether an outlet of this number is one of this file: once it is handed back under a name of
+  -- the file, what it has taken is in the file, if the bytes of that are known to the proof, and no
+  -- other file has changed. This never changes.
   pub writes : Option ℕ → Keys
   -- Whether this file was opened as an input. It never stops being one; another file becomes one
   -- only if it may be refused for the cause `Input`.

@@ -54,7 +54,7 @@ pub trait Written {
 /// Each clause says by inode what changes. A disk that doesn't tell (`Tells`) promises nothing of
 /// names and bytes. The bytes of an inode are those that it holds while nothing writes to it:
 /// contracts don't see them change before [`close`](Disk::close). So read no file between the first
-/// write to it and that call.
+/// write to it and that call. No write to a pipe or a device changes a regular file.
 pub trait Disk {
     /// A file that was opened, and of which nothing was read or written yet.
     type File: Opened + Drop;
@@ -136,8 +136,8 @@ pub trait Disk {
     fn seen(&self, reader: Self::Reader) -> Seen
         ensures why { TellsWhy (Self.Reader.state reader).failures result.error };
 
-    /// The writer of an open file, which is empty if it is regular. If it `syncs`, a flush waits
-    /// until its bytes are on stable storage. Nothing changes.
+    /// The writer of an open file, which is empty if it is regular. It tells no other inode's
+    /// number. If it `syncs`, a flush waits until its bytes are on stable storage. Nothing changes.
     fn writer(&self, file: Self::File, syncs: bool) -> Self::Writer
         requires empty { Tells (state self.now)
             → IsRegular (state self.now) (Self.File.inode file)
@@ -149,6 +149,8 @@ pub trait Disk {
         ensures nothing { Tells (state self.now)
             → IsRegular (state self.now) (Self.File.inode file)
             → (Self.Writer.state result).taken ≡ [] }
+        ensures own { Tells (state self.now) → (i : ℕ)
+            → (Self.Writer.state result).file ≡ Some i → i ≡ Self.File.inode file }
         ensures syncs { Self.Writer.syncs result ≡ syncs };
 
     /// Closes a writer. The inode whose number it tells, if that is there, holds what it has taken.

@@ -47,8 +47,9 @@ impl From<OutOfMemory> for FileFault {
 /// Whether the bytes of a file are known to the proof is said by file, and never changes. In memory
 /// all are ([`MemoryFiles`](crate::MemoryFiles)), and on a disk that tells them those of regular
 /// files ([`DiskFiles`](crate::DiskFiles)). The contracts speak of the bytes of a file, and of
-/// whether it is held, only if its bytes are known. No call for such a file changes another file's
-/// bytes, and no such file is removed.
+/// whether it is held, only if its bytes are known, and no such file is removed. No call changes
+/// the bytes of another file than its own, also if those of its own are not known, as those of a
+/// pipe.
 ///
 /// The contracts also say which names may be refused, which lead to an input, for which names a
 /// device has failed, which errors it may then say, and for which a target was not flushed. A
@@ -140,9 +141,7 @@ pub trait Files {
         ensures emptied { OnOk result
             (IsTrue ((state self.old).tells ((state self.old).leads name.now))
             → (state self.new).bytes ((state self.old).leads name.now) ≡ Some []) }
-        ensures written { IfOk result (λ target.
-            IsTrue ((state self.old).tells ((state self.old).leads name.now))
-            → IsTrue ((state self.old).writes
+        ensures written { IfOk result (λ target. IsTrue ((state self.old).writes
             (Self.Target.state target).file ((state self.old).leads name.now))) }
         ensures refused { OnErr result
             (IsTrue ((state self.old).tells ((state self.old).leads name.now))
@@ -150,8 +149,7 @@ pub trait Files {
             ≡ (state self.old).bytes ((state self.old).leads name.now))
             ⊎ ((state self.new).bytes ((state self.old).leads name.now) ≡ Some [])) }
         ensures held { StillHeld (state self.old) (state self.new) }
-        ensures others { IsTrue ((state self.old).tells ((state self.old).leads name.now))
-            → KeepsOthers (state self.old).bytes
+        ensures others { KeepsOthers (state self.old).bytes
             (state self.new).bytes ((state self.old).leads name.now) }
         ensures kept { OnlyWrites (state self.old) (state self.new) }
         ensures rightly { (cause : Cause) → result ≡ Err (FileFault.Refused cause)
@@ -168,8 +166,7 @@ pub trait Files {
             → (state self.new).bytes ((state self.old).leads name.now)
             ≡ Some (Self.Target.state target).taken }
         ensures held { StillHeld (state self.old) (state self.new) }
-        ensures others { IsTrue ((state self.old).tells ((state self.old).leads name.now))
-            → IsTrue ((state self.old).writes
+        ensures others { IsTrue ((state self.old).writes
             (Self.Target.state target).file ((state self.old).leads name.now))
             → KeepsOthers (state self.old).bytes
             (state self.new).bytes ((state self.old).leads name.now) }

@@ -16,7 +16,7 @@ use Rattle.fq_run_core.specs.Devices.{OutletStates, Took, OutletsTook, outlet_at
 use Rattle.fq_run_core.specs.Endings.{AreFirst, all_pairs}
 use Rattle.fq_run_core.specs.Fates.{Fate, Unbroken, FlushFailed, WriteFailed, failed_outlet, block_begun, part_begun}
 use Rattle.fq_run_core.specs.Outcomes.{rank}
-use Rattle.fq_app_files.specs.Trimming.{IsEmptyOutlet, AreEmpty, pairs_of}
+use Rattle.fq_app_files.specs.Trimming.{IsEmptyOutlet, pairs_of}
 use Rattle.fq_law_in_step.specs.InStep.{IsPairIn, AreInStep}
 use Rattle.fq_law_runs.specs.Runs.{HaveTaken, WholeRunsAreInStep, EndingsAreInStep, BeginsText, OutletsBeginTexts, FilesBeginTexts}
 use Rattle.fq_law_in_step.proofs.TextLemmas.{inputs_give_pairs}
@@ -25,28 +25,26 @@ use Rattle.fq_app.proofs.FileLemmas.{still_first, first_are_pairs}
 
 -- an outlet that began empty has taken its text
 has_taken : (old new : Option OutletState) (text : List ℕ) (failed : ℕ) → Took old new text failed →
-    ((outlet : OutletState) → old ≡ Some outlet → IsEmptyOutlet outlet) → (outlet : OutletState) →
-    new ≡ Some outlet → outlet.taken ≡ text
-has_taken (Some old) (Some new) text failed took empty outlet is =
-    let began = empty old refl in
-    grind (arith, common_steps)
-has_taken (Some old) None text failed took empty outlet is = absurd took
-has_taken None new text failed took empty outlet is = grind (arith, common_steps)
+    (before after : OutletState) → old ≡ Some before → IsEmptyOutlet before → new ≡ Some after →
+    after.taken ≡ text
+has_taken (Some old) (Some new) text failed took before after was empty is =
+    grind (arith, common_steps, empty.tells, empty.taken)
+has_taken (Some old) None text failed took before after was empty is = absurd took
+has_taken None new text failed took before after was empty is = absurd (cc was)
 
 have_taken : (old new : OutletStates) (texts : Out → List ℕ) (failed : Option Out) →
-    OutletsTook old new texts failed → AreEmpty old → HaveTaken new texts
-have_taken old new texts failed took empty out outlet is =
+    OutletsTook old new texts failed → HaveTaken old new texts
+have_taken old new texts failed took out =
     has_taken (outlet_at out old) (outlet_at out new) (texts out) _ (took out)
-    (λ o at. empty out o at) outlet is
 
 -- if a run trimmed all pairs, what its outlets took is in step with its counts
 pub whole_runs : WholeRunsAreInStep
-whole_runs c run trimmed empty =
+whole_runs c run trimmed =
     let ms = (all_pairs c run).mates in
     let texts : Out → List ℕ = λ out. text_of out (texts_of c.steps ms) in
     record {
       texts = texts;
-      taken = have_taken run.outlets run.outlets_left texts None trimmed.took empty;
+      taken = have_taken run.outlets run.outlets_left texts None trimmed.took;
       in_step =
           subst (λ (counts : Counts). AreInStep c.check_names c.steps c.encoding ms counts texts)
           (sym trimmed.counts)
@@ -66,7 +64,7 @@ nothing_failed (WriteFailed out sent block) n few many = let h = few out refl in
 
 -- at each ending but `Lane`, what outlets took of complete blocks is in step with the counts
 pub endings : EndingsAreInStep
-endings c run every told empty =
+endings c run every told =
     let all = (all_pairs c run).mates in
     let whole = every.whole in
     let texts : Out → List ℕ = λ out. text_of out (texts_of c.steps whole) in
@@ -80,7 +78,7 @@ endings c run every told empty =
       first = first;
       taken = have_taken run.outlets run.outlets_left
           (λ out. texts out ++ part_begun c.steps every.fate out) (failed_outlet every.fate)
-          every.took empty;
+          every.took;
       unbroken = nothing_failed every.fate (rank run.outcome) every.outcome.outlet_failed;
       in_step =
           subst (λ (counts : Counts). AreInStep c.check_names c.steps c.encoding whole counts texts)
@@ -126,15 +124,15 @@ first_texts c all whole fate out first part begins =
 
 -- what an outlet has taken begins as the text of all pairs
 pub outlets_begin : OutletsBeginTexts
-outlets_begin c run every told empty out outlet is part begins =
+outlets_begin c run every told out before after was empty is part begins =
     first_texts c (all_pairs c run) every.whole every.fate out (every.first told) part
     (subst (IsPrefix part) (have_taken run.outlets run.outlets_left
     (λ out. text_of out (texts_of c.steps every.whole) ++ part_begun c.steps every.fate out)
-    (failed_outlet every.fate) every.took empty out outlet is) begins)
+    (failed_outlet every.fate) every.took out before after was empty is) begins)
 
 -- so does the file of each output, if trimming had begun
 pub files_begin : FilesBeginTexts
-files_begin a c old new forward reverse settings forward_is reverse_is left =
+files_begin a tells c old new forward reverse settings forward_is reverse_is left =
     ⊎_elim (λ untrimmed. inl untrimmed) (λ ended. let held = ended.1 in
     let all = pairs_of held.choices a.inputs.form held.forward held.reverse in
     inr (λ out name own. (

@@ -3,6 +3,7 @@ use Rattle.std.specs.Prelude.{◌≡◌, ◌<◌, ◌⊎◌, Ok, Some, List, ◌
 use mathlib.Core.List.{IsPrefix}
 use Rattle.fq_text.specs.Devices.{OutletState}
 use Rattle.fq_files.specs.Holding.{Holding}
+use Rattle.fq_files.specs.States.{Keys}
 use Rattle.fq_pair.specs.declared.out.Out.{Out}
 use Rattle.fq_pair.specs.Mates.{Mates}
 use Rattle.fq_pair.specs.Outputs.{texts_of, text_of}
@@ -14,27 +15,26 @@ use Rattle.fq_run_core.specs.Fates.{Fate, Unbroken, part_begun}
 use Rattle.fq_run_core.specs.Outcomes.{rank}
 use Rattle.fq_app_files.specs.Judging.{settings_of}
 use Rattle.fq_app_files.specs.Leaving.{AreLeft, AreUntrimmed}
-use Rattle.fq_app_files.specs.Trimming.{AreEmpty, HasOwnName, pairs_of}
+use Rattle.fq_app_files.specs.Trimming.{HasOwnName, IsEmptyOutlet, pairs_of}
 use Rattle.fq_app_words.specs.Requests.{Asking}
 use Rattle.fq_law_in_step.specs.InStep.{AreInStep}
 
--- the outlets have taken these texts
-abbrev pub HaveTaken : OutletStates → (Out → List ℕ) → Type 0
-HaveTaken outlets texts = (out : Out) (outlet : OutletState) →
-    outlet_at out outlets ≡ Some outlet → outlet.taken ≡ texts out
+-- each outlet that tells its bytes and began empty has taken its text
+abbrev pub HaveTaken : OutletStates → OutletStates → (Out → List ℕ) → Type 0
+HaveTaken old new texts = (out : Out) (before after : OutletState) →
+    outlet_at out old ≡ Some before → IsEmptyOutlet before →
+    outlet_at out new ≡ Some after → after.taken ≡ texts out
 
 -- A run that ended whole.
 
 -- The outlets have taken the outputs of all pairs, in step with the counts of the run.
 pub record RunIsInStep (c : Choices) (run : Run) : Type 0 where
   pub texts : Out → List ℕ
-  pub taken : HaveTaken run.outlets_left texts
+  pub taken : HaveTaken run.outlets run.outlets_left texts
   pub in_step : AreInStep c.check_names c.steps c.encoding (all_pairs c run).mates run.counts texts
 
--- the outputs are in step, if the bytes of the outlets are known and the outlets begin empty
 abbrev pub WholeRunsAreInStep : Type 0
-WholeRunsAreInStep = (c : Choices) (run : Run) →
-    IsTrimmed c run → AreEmpty run.outlets → RunIsInStep c run
+WholeRunsAreInStep = (c : Choices) (run : Run) → IsTrimmed c run → RunIsInStep c run
 
 -- A run with any other ending except an unconfirmed lane.
 
@@ -46,14 +46,15 @@ pub record RunIsInStepUpTo (c : Choices) (run : Run) : Type 0 where
   pub fate : Fate
   pub texts : Out → List ℕ
   pub first : AreFirst whole (all_pairs c run).mates
-  pub taken : HaveTaken run.outlets_left (λ out. texts out ++ part_begun c.steps fate out)
+  pub taken : HaveTaken run.outlets run.outlets_left
+      (λ out. texts out ++ part_begun c.steps fate out)
   pub unbroken : 5 < rank run.outcome → fate ≡ Unbroken
   pub in_step : AreInStep c.check_names c.steps c.encoding whole run.counts texts
 
--- the outputs are in step for the first pairs, if the bytes of the feeds are known, too
+-- the outputs are in step for the first pairs, if the bytes of the feeds are known
 abbrev pub EndingsAreInStep : Type 0
 EndingsAreInStep = (c : Choices) (run : Run) →
-    EveryEnding c run → AreTold run → AreEmpty run.outlets → RunIsInStepUpTo c run
+    EveryEnding c run → AreTold run → RunIsInStepUpTo c run
 
 -- A run that is killed. No function returns then, so no clause speaks of that moment. But outlets
 -- only append, so each has taken a first part of what it would have taken at the end.
@@ -65,17 +66,18 @@ BeginsText c all out bytes = (part : List ℕ) →
 
 -- so it is with what an outlet has taken, under the same conditions
 abbrev pub OutletsBeginTexts : Type 0
-OutletsBeginTexts = (c : Choices) (run : Run) →
-    EveryEnding c run → AreTold run → AreEmpty run.outlets →
-    (out : Out) (outlet : OutletState) → outlet_at out run.outlets_left ≡ Some outlet →
-    BeginsText c (all_pairs c run) out outlet.taken
+OutletsBeginTexts = (c : Choices) (run : Run) → EveryEnding c run → AreTold run →
+    (out : Out) (before after : OutletState) →
+    outlet_at out run.outlets ≡ Some before → IsEmptyOutlet before →
+    outlet_at out run.outlets_left ≡ Some after → BeginsText c (all_pairs c run) out after.taken
 
 -- and with the file of each output that has a name of its own, if trimming had begun; otherwise
 -- each file holds what it held before, or nothing
 abbrev pub FilesBeginTexts : Type 0
-FilesBeginTexts = (a : Asking) (c : Choices) (old new : Holding) (forward reverse : List ℕ) →
+FilesBeginTexts = (a : Asking) (tells : Keys) (c : Choices) (old new : Holding)
+    (forward reverse : List ℕ) →
     settings_of a ≡ Ok c → old a.inputs.forward ≡ Some forward →
-    old a.inputs.reverse ≡ Some reverse → AreLeft a old new →
-    AreUntrimmed a old new ⊎ ((out : Out) (name : List ℕ) → HasOwnName a out name →
+    old a.inputs.reverse ≡ Some reverse → AreLeft a tells old new →
+    AreUntrimmed a tells old new ⊎ ((out : Out) (name : List ℕ) → HasOwnName a tells out name →
     (bytes : List ℕ) × (new name ≡ Some bytes)
     × BeginsText c (pairs_of c a.inputs.form forward reverse) out bytes)

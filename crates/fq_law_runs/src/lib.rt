@@ -6,8 +6,8 @@
 //! definitions that the contracts of the other crates use, so it holds for every run. The laws of
 //! runs have only these premises, beside those of `fq_law_in_step`:
 //!
-//! - The bytes of outlets are known to the proof, as those of memory are, and outlets begin empty.
-//!   For endings that aren't whole, the bytes of feeds are known, too.
+//! - Of each outlet: that its bytes are known to the proof, as those of memory are, and that it
+//!   began empty. For endings that aren't whole, the bytes of feeds are known, too.
 #![tactic(auto)]
 
 mod parts;

@@ -4,8 +4,8 @@ ghost use Rattle.fq_law_runs.specs.Runs.{WholeRunsAreInStep, EndingsAreInStep, O
 
 /// After a run that ended whole, what its outlets have taken is in step, with its counts.
 ///
-/// The premise `IsTrimmed` is the clause `whole` of each run. The bytes of the outlets must be
-/// known to the proof, and the outlets must have begun empty.
+/// The premise `IsTrimmed` is the clause `whole` of each run. It is said of each outlet whose bytes
+/// are known to the proof and that began empty.
 pub fn whole_runs_are_in_step()
     ensures { WholeRunsAreInStep }
 {}
@@ -14,7 +14,7 @@ pub fn whole_runs_are_in_step()
 /// step for its first pairs, up to the block in which a write failed.
 ///
 /// The premise `EveryEnding` is the clause `every` of each run. The bytes of the feeds must be
-/// known, too.
+/// known.
 pub fn endings_are_in_step()
     ensures { EndingsAreInStep }
 {}

@@ -1,7 +1,7 @@
 use Rattle.std.proofs.Common.{◌≡◌, ◌≢◌, ◌⊎◌, refl, inl, inr, ap, subst, sym, arith}
 use Rattle.fq_files.specs.States.{FilesState}
 use Rattle.fq_app_files.specs.Faults.{outcome_status}
-use Rattle.fq_app_files.specs.Trimming.{filed, AreFilesTold}
+use Rattle.fq_app_files.specs.Trimming.{filed, AreInputsTold}
 use Rattle.fq_app.specs.Answers.{device_of, TookLine, EndsWhole, PairsAnswered}
 use Rattle.fq_app_words.specs.Requests.{asking_of}
 use Rattle.fq_app_files.specs.Judging.{wrong_with}
@@ -26,15 +26,15 @@ returns-in-Ok-clause-request g c =
       ended = c.in-Ok.ensures.completed.ended;
       due = c.in-Ok.ensures.completed.due;
       not_due = c.in-Ok.ensures.completed.not_due;
-      held = λ told name named. c.in-Ok.ensures.completed.report told.inputs name named
-          (told.made name (inr named));
+      held = c.in-Ok.ensures.completed.report;
+      unreported = c.in-Ok.ensures.completed.unreported;
     } in
     let line : c.tell.result ≢ 0 → TookLine a _ _ _ _ c.tell.result =
     λ some. told_line a _ _ account.outcome account.counts reported run
     c.in-Ok.completed.seen c.in-Ok.ensures.completed.said c.in-Ok.ensures.completed.its_error
     _ c.in-Ok.ensures.report_says _ _ _ (c.tell.ensures.line some) in
     let whole : (c.tell.result ≡ 0) ⊎ (c.tell.result ≡ 3) →
-    AreFilesTold (filed old a) old.tells → EndsWhole a _ _ _ _ c.tell.result =
+    AreInputsTold (filed old a).inputs old.tells → EndsWhole a _ _ _ _ c.tell.result =
     λ ends told.
     let status = c.tell.ensures.whole ends in
     record {
@@ -56,13 +56,13 @@ returns-in-Ok-clause-request g c =
       line = line;
       known = c.tell.ensures.known.0;
       left = left_so a _ _ _ _ _ whole line;
-      reported = λ ends told name named.
+      reported = λ ends told name named own.
           let is : (outcome_status account.outcome ≡ 0) ⊎ (outcome_status account.outcome ≡ 3) =
           subst (λ n. (n ≡ 0) ⊎ (n ≡ 3)) (sym (c.tell.ensures.whole ends)) ends in
           is_held a _ _ account.outcome account.counts reported run (c.tell.ensures.reported ends)
-          is told name named;
-      report_left = λ told name named. is_left a _ _ _ name reported
-          (run.held told name named);
+          is told name named own;
+      report_left = λ told name named own. is_left a _ _ _ name reported
+          (run.held told name named own);
       unopened = c.in-Ok.ensures.unopened;
     } in
     request_answered a _ _ _ _ _ pairs

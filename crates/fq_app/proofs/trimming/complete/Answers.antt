@@ -1,4 +1,4 @@
-use Rattle.std.proofs.Common.{◌≡◌, ◌∙◌, ℕ, IsTrue, IsSome, Ok, Some, Option, List, refl, sym, ap, subst, true, None}
+use Rattle.std.proofs.Common.{◌≡◌, ◌∙◌, ℕ, IsTrue, IsSome, Ok, Some, Option, List, [], refl, sym, ap, subst, true, None}
 use Rattle.fq_pair.specs.declared.side.Side.TheVariants.{Forward, Reverse}
 use Rattle.fq_run.specs.Devices.{outlet_states}
 use Rattle.fq_pair.specs.declared.fault.InputFault.TheVariants.{Text, NamesDiffer}
@@ -11,15 +11,17 @@ use Rattle.fq_text.specs.declared.seen.SystemError.{SystemError}
 use Rattle.fq_run.specs.Outcome.{Outcome}
 use Rattle.fq_run.specs.Outcome.TheVariants.{Input}
 use Rattle.fq_run.specs.Endings.{AreTold, ends_whole, AreItsNames}
-use Rattle.fq_app_words.specs.Requests.{asking_of, output_name}
+use Rattle.fq_app_words.specs.Requests.{asking_of}
 use Rattle.std.specs.Option.{option_map}
 use Rattle.fq_app_files.specs.Judging.{settings_of}
 use Rattle.fq_app_files.specs.Making.{AreOutputsStored}
 use Rattle.fq_app_files.specs.Completing.{AreFeedsCounted, IsReportStored}
-use Rattle.fq_app_files.specs.Trimming.{filed, opened_of, left_of, run_in, AreFilesTold, AreInputsTold, AreMadeTold, WriteTheirs, WritesReport}
+use Rattle.fq_app_files.specs.Reporting.{TookReport}
+use Rattle.fq_app_files.specs.declared.reporting.Reported.{Reported}
+use Rattle.fq_app_files.specs.Trimming.{filed, opened_of, left_of, run_in, AreEmpty, AreHeld, AreInputsTold, HasOwnName, WriteTheirs, WritesReport}
 use Rattle.fq_app_files.proofs.FiledLemmas.{settings_filed, theirs_after}
 use Rattle.fq_files.specs.States.{FilesState, Keys}
-use Rattle.fq_files.proofs.StateLemmas.{same_as, store_fail, then_store, told_as}
+use Rattle.fq_files.proofs.StateLemmas.{same_as, store_fail, then_store, told_as, told_before}
 use Rattle.fq_run.specs.Outcomes.{is_unmatched}
 use Rattle.fq_run_core.specs.declared.outlets.Outlets.{Outlets}
 use Rattle.fq_app_files.specs.Faults.{settled}
@@ -33,19 +35,6 @@ use Rattle.fq_app_files.proofs.OpeningLemmas.{inputs_kept}
 use Rattle.fq_app_files.specs.Seeing.{InputsMaySay, IsReportError, LookAsTheyAre, OutputsMaySay, OutputsTellWhy, seen_when}
 use Rattle.fq_app_files.proofs.SaidLemmas.{is_said, its_error}
 use Rattle.fq_app.proofs.trimming.complete.Goals as goal
-
--- the file of each output exists when the outlets are handed back
-pub store-errors-requires-after_bounds : goal.store-errors-requires-after_bounds
-store-errors-requires-after_bounds g c κs within = λ told out name named.
-    let kept = c.inputs_done-inputs.ensures.kept in
-    let asked = asking_of c.args.request.now in
-    let told_in : FilesState → Type 0 = λ s. AreMadeTold (filed s asked) s.tells in
-    let before = subst told_in kept told in
-    let own : FilesState → Type 0 =
-    λ s. output_name (filed s asked) out ≡ Some name in
-    let P : Option (List ℕ) → Type 0 = λ bytes. IsSome bytes in
-    subst P (sym (same_as _ _ kept name))
-    (c.requires.ready.held before out name (subst own kept named))
 
 -- names are lost only if the run has the witness that memory was refused
 names_lost : (form : Form) (e : Encoding) (f r : FeedState) (o : Outcome) (names : Option MateNames)
@@ -128,7 +117,6 @@ returns g c =
           let told_on : (told : Keys → Type 0) → told start.tells → told kept.tells =
           λ told known. told_as told _ _ stored.kept
           (told_as told _ _ done.kept (told_as told _ _ since known)) in
-          let made_on = told_on (AreMadeTold f) in
           let are_told : AreInputsTold f.inputs start.tells → AreTold run =
           λ told. record {
             forward = (opened.fed.forward told.0).told;
@@ -141,27 +129,31 @@ returns g c =
           let its : WritesReport f kept report =
           let P : FilesState → Type 0 = λ s. WritesReport f s report in
           subst P (sym stored.kept) (subst P (sym done.kept) opened.ready.report_made.theirs) in
-          let held : AreFilesTold f start.tells → IsHeld f choices start.bytes ended.bytes run =
+          let there : FilesState → Type 0 = λ s. AreHeld f s.tells s.bytes in
+          let all_stored = outputs.stored
+          (told_as (λ tells. AreHeld f tells fed.bytes) _ _ stored.kept
+          (subst there (sym done.kept) opened.ready.held)) theirs in
+          let held : AreInputsTold f.inputs start.tells →
+          IsHeld f start.tells choices start.bytes ended.bytes run =
           λ told. record {
             settings = right;
             form = opened.ready.form;
-            told = are_told told.inputs;
-            forward_is = (opened.fed.forward told.inputs.0).bytes_are;
-            reverse_is = (opened.fed.reverse told.inputs.1).bytes_are;
+            told = are_told told;
+            forward_is = (opened.fed.forward told.0).bytes_are;
+            reverse_is = (opened.fed.reverse told.1).bytes_are;
             log = opened.ready.log;
-            empty = opened.ready.empty (told_as (AreMadeTold f) _ _ since told.made);
-            hold = λ out name outlet own at. reports.others its (made_on told.made) name own.report
-                ∙ all_hold f after _ (outputs.stored (made_on told.made) theirs).hold
-                out name outlet own at;
+            empty = told_before (λ tells. AreEmpty f tells before) _ _ since opened.ready.empty;
+            hold = λ out name outlet own at. reports.others its name own.report
+                ∙ all_hold f _ after _ all_stored.hold out name outlet
+                (told_on (λ tells. HasOwnName f tells out name) own) at;
           } in
           record {
-            trims = λ told whole. trims_files f choices _ _ run (held told)
-                (c.run-account.ensures.whole whole (are_told told.inputs));
-            ended = λ told other. first_pairs f choices _ _ run (held told)
+            trims = λ told whole. trims_files f start.tells choices _ _ run (held told)
+                (c.run-account.ensures.whole whole (are_told told));
+            ended = λ told other. first_pairs f start.tells choices _ _ run (held told)
                 (c.run-account.ensures.every other);
-            rest = λ told name free other. reports.others its (made_on told) name other
-                ∙ ((outputs.stored (made_on told) theirs).rest name free
-                ∙ (same name ∙ opened.rest told name free other));
+            rest = λ name free other. reports.others its name other
+                ∙ (all_stored.rest name free ∙ (same name ∙ opened.rest name free other));
             due = reports.due;
             not_due = reports.not_due;
             report = λ told name named own.
@@ -174,6 +166,13 @@ returns g c =
                 (opened.fed.reverse told.1).bytes_are
                 refl refl refl (λ whole. c.run-account.ensures.whole whole (are_told told))
                 c.encoding.ensures reports.due took.1 took.2;
+            unreported = λ none name named own.
+                let at_name : Keys → Type 0 = λ tells. IsTrue (tells name) in
+                let took = reports.took
+                (opened.ready.report_made.empty name named (told_as at_name _ _ since own)) its
+                name named (told_on at_name own) in
+                let P : Reported → Type 0 = λ r. TookReport r a c.encoding.result account [] took.0 in
+                took.1 ∙ ap Some (subst P none took.2);
             failed = λ other. fails_as_told f start choices inputs run left _ _ _
                 ended right refl refl opened.ready.log (sides_in inputs before after left account)
                 opened.fed (c.run-account.ensures.every other) counted outputs.counted
@@ -182,12 +181,12 @@ returns g c =
                 as_it_is choices run (λ whole. c.run-account.ensures.whole whole (are_told told));
             said = λ told.
                 let is = as_it_is choices run (λ whole. c.run-account.ensures.whole whole
-                (are_told told.inputs)) in
+                (are_told told)) in
                 is_said start.looks f start.bytes started.bytes account.outcome left
                 c.inputs_done-inputs.result c.store-errors.result c.run-account.result.unmatched _
                 c.seen_of.ensures c.run-account.ensures.returned
-                (inputs_kept f start.bytes started.bytes (opened.apart told.inputs)
-                (opened.rest told.made))
+                (inputs_kept f start.bytes started.bytes (opened.apart told)
+                opened.rest)
                 (let looks_at : FilesState → Type 0 =
                 λ s. IsTrue s.looks → LookAsTheyAre (filed s a).inputs started.bytes left
                 c.inputs_done-inputs.result in
@@ -204,16 +203,16 @@ returns g c =
                 let same : own.encoding ≡ choices.encoding =
                 (let e = sym set ∙ right in let c : own ≡ choices = cc in ap (λ x. x.encoding) c) in
                 let one : forward ≡ inputs.forward.to_come =
-                (let e = sym first ∙ (opened.fed.forward told.inputs.0).bytes_are in cc) in
+                (let e = sym first ∙ (opened.fed.forward told.0).bytes_are in cc) in
                 let two : reverse ≡ inputs.reverse.to_come =
-                (let e = sym second ∙ (opened.fed.reverse told.inputs.1).bytes_are in cc) in
+                (let e = sym second ∙ (opened.fed.reverse told.1).bytes_are in cc) in
                 let formed = sym opened.ready.form in
                 (λ i. names_of_pair k (formed i) (same i) (one i) (two i))
                 ∙ names_told inputs.form choices.encoding inputs.forward inputs.reverse
                 account.outcome c.run-account.result.unmatched account.refused
                 c.inputs_done-inputs.result c.store-errors.result _ k these c.seen_of.ensures
-                c.run-account.ensures.names is at named (are_told told.inputs).forward
-                (are_told told.inputs).reverse);
+                c.run-account.ensures.names is at named (are_told told).forward
+                (are_told told).reverse);
             its_error =
                 let inputs_say : FilesState → Type 0 =
                 λ s. InputsMaySay (filed s a).inputs s.may_say c.inputs_done-inputs.result in

@@ -23,8 +23,10 @@ returns-clause-made g c =
     cases_mapped c.target.result c.map_err.result _ _ _ c.map_err.ensures.cases
     (λ target made. record {
       fresh = rw made at c.target.ensures.fresh;
-      empty = λ told.
-          let own = told (old.leads c.in-Some.name.now) (inl (c.args.out, named)) in
+      empty = λ file is told.
+          let same : Some file ≡ Some (old.leads c.in-Some.name.now) = sym is ∙ named in
+          let equal : file ≡ old.leads c.in-Some.name.now = cc in
+          let own = subst (λ (x : List ℕ). IsTrue (old.tells x)) equal told in
           record {
             tells = (rw made at c.target.ensures.telling) own;
             taken = (rw made at c.target.ensures.nothing) own;
@@ -32,9 +34,8 @@ returns-clause-made g c =
       theirs = λ file is.
           let same : Some (old.leads c.in-Some.name.now) ≡ Some file = sym named ∙ is in
           let equal : old.leads c.in-Some.name.now ≡ file = cc in
-          subst (λ (x : List ℕ). IsTrue (old.tells x) →
-          IsTrue (old.writes (g.T.Target.Outlet.state target).file x)) equal
-          (rw made at c.target.ensures.written);
+          subst (λ (x : List ℕ). IsTrue (old.writes (g.T.Target.Outlet.state target).file x))
+          equal (rw made at c.target.ensures.written);
       made = λ start first. one_made a start c.args.out _ named
           _ _ c.target.ensures.kept first c.target.ensures.others
           (rw made at c.target.ensures.emptied);

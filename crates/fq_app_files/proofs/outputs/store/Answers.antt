@@ -46,7 +46,7 @@ four_stored a states start one two three four kept_1 kept_2 kept_3 kept_4 first 
       kept = then_store start three four to_3 kept_4;
       stored = last.stored start.bytes states refl (then.stored start.bytes states refl
           (next.stored start.bytes states refl (first.stored start.bytes states refl
-          (λ told theirs. none_stored (filed start a) states start.bytes))));
+          (λ held theirs. none_stored (filed start a) start.tells states start.bytes held))));
       counted = last.counted start states refl (then.counted start states refl
           (next.counted start states refl (first.counted start states refl
           (none_counted (filed start a) states start))));
@@ -99,7 +99,7 @@ returns-in_default-clause-stored g c =
           let bad : None ≡ Some name = sym none ∙ named in cc
     ] in
     record {
-      stored = λ told theirs. no_log_stored files _ states _ no_log (first.stored told theirs);
+      stored = λ held theirs. no_log_stored files _ _ states _ no_log (first.stored held theirs);
       counted = no_log_counted files states _ _ no_log first.counted;
       flushed = first.flushed;
     }

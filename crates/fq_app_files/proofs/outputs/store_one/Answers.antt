@@ -4,15 +4,9 @@ use Rattle.fq_files.specs.States.{MaySay}
 use Rattle.fq_app_words.specs.Requests.{asking_of}
 use Rattle.fq_app_files.specs.Trimming.{filed}
 use Rattle.fq_app_files.proofs.FiledLemmas.{output_filed}
-use Rattle.fq_app_files.proofs.StoreLemmas.{one_stored, still_held}
+use Rattle.fq_app_files.proofs.StoreLemmas.{one_stored}
 use Rattle.fq_app_files.proofs.CountingLemmas.{one_counted}
 use Rattle.fq_app_files.proofs.outputs.store_one.Goals as goal
-
--- the file of each output still exists
-pub returns-clause-held : goal.returns-clause-held
-returns-clause-held g c =
-    still_held (asking_of c.args.request.now) (g.T.Files.state c.args.files.now)
-    (g.T.Files.state c.done.new.self) c.done.ensures.kept c.done.ensures.held c.requires.held
 
 -- one more output's file holds what its outlet has taken, and what is known of the outlet
 pub returns-clause-stored : goal.returns-clause-stored
@@ -26,7 +20,8 @@ returns-clause-stored g c =
     record {
       stored = λ start states at first. one_stored (filed old a) start states c.args.out file
           outlet old (g.T.Files.state c.done.new.self) named at
-          c.done.ensures.kept c.done.ensures.stored c.done.ensures.others c.requires.held first;
+          c.done.ensures.kept c.done.ensures.held c.done.ensures.stored c.done.ensures.others
+          first;
       counted = λ start states at first. one_counted (filed old a) states c.args.out file
           outlet start _ _ named at
           c.done.ensures.failed c.done.ensures.sound c.done.ensures.still first;

@@ -32,5 +32,16 @@ pub returns-clause-given : goal.returns-clause-given
 returns-clause-given g c = elim c.if-is_regular.branch [
   | then-is_regular+in_ok-map_err+then-facts-gt0+in_ok-map_err-2 w ↦ search rules
   | then-is_regular+in_ok-map_err+else-facts-gt0 w ↦ search (rules, common_steps)
-  | else-is_regular w ↦ search rules
+  | else-is_regular w ↦ λ tells. record {
+    inode = g.D.File.Opened.inode c.in_ok-file.file;
+    leads = grind (arith);
+    there = grind (arith);
+    no_input = grind (arith);
+    no_output = λ regular. grind (arith);
+    noted = λ regular. grind (arith);
+    emptied = λ regular. grind (arith);
+    telling = λ regular. grind (arith);
+    nothing = λ regular. grind (arith);
+    own = λ i is. grind (arith);
+  }
 ]
