@@ -149,8 +149,7 @@ impl Collector {
                     return;
                 }
                 self.total.add(&done);
-                // Without room in the lane the texts are dropped.
-                let _ = ends.back.offer(done);
+                ends.back.give_back(done);
                 self.turn = next_turn(self.turn, lanes);
             }
         }
