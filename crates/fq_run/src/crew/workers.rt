@@ -6,6 +6,7 @@ ghost use Rattle.std.specs.List.{AllZip};
 ghost use Rattle.fq_run.specs.crew.Workers.{Seated, Joined};
 
 use crate::crew::job::Job;
+use crate::waiting::{Caller, CallerWaits};
 use fq_run_core::Settings;
 use fq_text::{MemoryRefused, OutOfMemory};
 use fq_work::{Gate, WorkEnds, Worked, work};
@@ -81,16 +82,19 @@ fn start_worker<R: Threads + Wait + Copy + Send + 'static, H: Gate + 'static>(
 /// Waits for all workers.
 #[tactic(auto, using(std::proofs::lemmas::Grind::common_steps, crate::proofs::EachLemmas::one_counted, crate::proofs::EachLemmas::zip_push))]
 pub(crate) fn join_workers<R: Threads>(
-    rt: &R,
+    waits: &mut CallerWaits<'_, R>,
     hands: Vec<PromisedHandle<Worked, Job>>,
     worked: Vec<Worked>,
 ) -> Vec<Worked>
-    requires { (worked.items ≡ []) × (vec_len hands ≤ vec_capacity worked) }
-    ensures { AllZip Joined hands.items result.items }
+    requires next { waits.old.next ≡ Caller.AwaitsWorkers 0 }
+    requires room { (worked.items ≡ []) × (vec_len hands ≤ vec_capacity worked) }
+    ensures joined { AllZip Joined hands.items result.items }
+    ensures next { waits.new.next ≡ Caller.AwaitsWorkers (vec_len result) }
 {
     let mut worked = worked;
     for hand in hands {
-        worked.push_reserved(hand.join(rt));
+        let one = waits.join_worker(worked.len(), hand);
+        worked.push_reserved(one);
     }
     worked
 }
