@@ -4,6 +4,7 @@ pub mod lanes
 pub mod dealer
 pub mod crew
 pub mod collector
+pub mod Doing
 pub mod Waiting
 pub mod Confirming
 pub mod Threads

@@ -1,6 +1,7 @@
 //! The part of a threaded run that writes.
 
 ghost use Rattle.std.specs.Prelude.{◌≡◌, ◌≢◌, ◌+◌, ◌<◌, [], None, Bool, IsTrue, is_some, min, if◌then◌else◌, vec_len};
+ghost use Rattle.fq_run.specs.Doing.{writes, drains, awaits_dealer};
 ghost use Rattle.fq_run.specs.collector.Collecting.{Collects, TookAll, before_stop, failed_in};
 ghost use Rattle.fq_run.specs.Shares.{gather};
 ghost use Rattle.fq_run.specs.Waiting.{does_in};
@@ -14,7 +15,7 @@ pub(crate) mod phase;
 mod stops;
 
 use crate::turns::next_turn;
-use crate::waiting::{Caller, CallerWaits};
+use crate::waiting::CallerWaits;
 use ends::CollectorEnds;
 use fq_lane::Taken;
 use fq_run_core::Outlets;
@@ -59,7 +60,7 @@ pub(crate) fn collect<R: Wait, O: Outlet>(
     replies: Vec<CollectorEnds>,
     outlets: &mut Outlets<O>,
 ) -> Collector
-    requires writes { waits.old.next ≡ Caller.Writes }
+    requires writes { waits.old ≡ writes }
     requires none { total ≡ no_total (is_some total.tally) }
     requires some { 0 < vec_len replies }
     requires fresh { IsDealt (vec_len replies) [] replies.items }
@@ -75,7 +76,7 @@ pub(crate) fn collect<R: Wait, O: Outlet>(
         (before_stop (gather (lists_of result.replies.items))) }
     // Exactly the stops that were received are noted.
     ensures hears { HearsAll result }
-    ensures next { waits.new.next ≡ Caller.AwaitsDealer }
+    ensures next { waits.new ≡ awaits_dealer }
 {
     let mut collector = Collector::new(total, replies);
     collector.write_all(waits, outlets);
@@ -112,7 +113,7 @@ impl Collector {
         waits: &mut CallerWaits<'_, R>,
         outlets: &mut Outlets<O>,
     )
-        requires next { waits.old.next ≡ does_in self.old.phase }
+        requires next { waits.old ≡ does_in self.old.phase }
         requires collects { Collects (is_some self.old.total.tally) (vec_len self.old.replies)
             (outlet_states O.state outlets.old) (outlet_states O.state outlets.old) self.old }
         requires outlets { AreHealthy (outlet_states O.state outlets.old) }
@@ -121,7 +122,7 @@ impl Collector {
         ensures names { names_of self.new.replies.items ≡ names_of self.old.replies.items }
         ensures over { self.new.phase ≢ Phase.Writing }
         ensures hears { HearsAll self.old → HearsAll self.new }
-        ensures next { waits.new.next ≡ Caller.Drains }
+        ensures next { waits.new ≡ drains }
     {
         for _ in waits.rounds() {
             let Phase::Writing = self.phase else {
@@ -138,7 +139,7 @@ impl Collector {
         waits: &mut CallerWaits<'_, R>,
         outlets: &mut Outlets<O>,
     )
-        requires next { waits.old.next ≡ Caller.Writes }
+        requires next { waits.old ≡ writes }
         requires writing { self.old.phase ≡ Phase.Writing }
         requires turn { self.old.turn < vec_len self.old.replies }
         requires outlets { AreHealthy (outlet_states O.state outlets.old) }
@@ -149,7 +150,7 @@ impl Collector {
             (outlet_states O.state outlets.new) self.new }
         ensures names { names_of self.new.replies.items ≡ names_of self.old.replies.items }
         ensures hears { HearsAll self.old → HearsAll self.new }
-        ensures next { waits.new.next ≡ does_in self.new.phase }
+        ensures next { waits.new ≡ does_in self.new.phase }
     {
         let lanes = self.replies.len();
         let ends = &mut self.replies[self.turn];
@@ -178,10 +179,10 @@ impl Collector {
     // can't send while the lane of another worker is full.
     fn drain<R: Wait>(&mut self, waits: &mut CallerWaits<'_, R>)
         requires over { self.old.phase ≢ Phase.Writing }
-        requires next { waits.old.next ≡ Caller.Drains }
+        requires next { waits.old ≡ drains }
         ensures drains { Drains self.old self.new }
         ensures closed { AllClosed self.new.replies.items }
-        ensures next { waits.new.next ≡ Caller.AwaitsDealer }
+        ensures next { waits.new ≡ awaits_dealer }
     {
         // Nothing unparks the sleeper, so each sleep lasts its full time.
         let sleeper = Parker::new();

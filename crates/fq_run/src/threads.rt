@@ -3,6 +3,7 @@
 ghost use Rattle.std.specs.Prelude.{◌≡◌, ◌≤◌, true, IfOk};
 ghost use Rattle.std.specs.Arc.{arc_value};
 ghost use Rattle.fq_text.specs.Reading.{text_limit};
+ghost use Rattle.fq_run.specs.Doing.{begins};
 ghost use Rattle.fq_run.specs.Confirming.{CanConfirm};
 ghost use Rattle.fq_run_core.specs.Totals.{no_total};
 ghost use Rattle.fq_run_core.specs.Devices.{outlet_states, AreHealthy};
@@ -20,7 +21,7 @@ use crate::dealer::dealing::start_dealer;
 use crate::dealer::dealt::Dealt;
 use crate::lanes::Lanes;
 use crate::lanes::seats::Seats;
-use crate::waiting::{Caller, CallerWaits};
+use crate::waiting::CallerWaits;
 use fq_lane::{End, NotEnded};
 use fq_pair::{Out, PairReader};
 use fq_run_core::shared::{Occurred, Total};
@@ -138,7 +139,7 @@ fn attend<R: Threads + Wait, S: PairReader, O: Outlet>(
     replies: Vec<CollectorEnds>,
     outlets: &mut Outlets<O>,
 ) -> Conclusion<S>
-    requires begins { waits.next ≡ Caller.Begins }
+    requires begins { waits ≡ begins }
     requires total { total ≡ no_total crew.dealer.promise.settings.tallied }
     requires manned { IsManned crew replies.items }
     requires fresh { IsFresh crew.dealer.promise.settings

@@ -3,10 +3,11 @@
 ghost use Rattle.std.specs.Prelude.{◌≡◌, ◌≤◌, [], IfOk, IfErr, vec_len, vec_capacity};
 ghost use Rattle.std.specs.Arc.{arc_value};
 ghost use Rattle.std.specs.List.{AllZip};
+ghost use Rattle.fq_run.specs.Doing.{awaits_workers};
 ghost use Rattle.fq_run.specs.crew.Workers.{Seated, Joined};
 
 use crate::crew::job::Job;
-use crate::waiting::{Caller, CallerWaits};
+use crate::waiting::CallerWaits;
 use fq_run_core::Settings;
 use fq_text::{MemoryRefused, OutOfMemory};
 use fq_work::{Gate, WorkEnds, Worked, work};
@@ -86,10 +87,10 @@ pub(crate) fn join_workers<R: Threads>(
     hands: Vec<PromisedHandle<Worked, Job>>,
     worked: Vec<Worked>,
 ) -> Vec<Worked>
-    requires next { waits.old.next ≡ Caller.AwaitsWorkers 0 }
+    requires next { waits.old ≡ awaits_workers 0 }
     requires room { (worked.items ≡ []) × (vec_len hands ≤ vec_capacity worked) }
     ensures joined { AllZip Joined hands.items result.items }
-    ensures next { waits.new.next ≡ Caller.AwaitsWorkers (vec_len result) }
+    ensures next { waits.new ≡ awaits_workers (vec_len result) }
 {
     let mut worked = worked;
     for hand in hands {

@@ -17,5 +17,5 @@ invariant-loop g l =
       lanes : vec_len l.self.replies ≡ vec_len l.fn.self.replies;
       names : names_of l.self.replies.items ≡ names_of l.fn.self.replies.items;
       hears : HearsAll l.fn.self → HearsAll l.self;
-      next : l.waits.next ≡ does_in l.self.phase;
+      next : l.waits ≡ does_in l.self.phase;
     }
