@@ -1,7 +1,8 @@
 -- What holds in every state that a run reaches.
 use Rattle.std.proofs.Common.{◌≡◌, ◌⊎◌, ⊎_elim, ℕ, ◌+◌, ◌<◌, ◌≤◌, Bool, true, false, List, [], ◌∷◌, ◌++◌, length, length-append, refl, ap, arith}
 use Rattle.fq_work.specs.Doing.{Reply, texts, stop, Doing, takes, answers, empties, left}
-use Rattle.fq_law_progress.specs.Model.{Run, IsRun, Seat, Dealer, awaits_start, closes, Caller, begins, closes_start, writes, drains, awaits_dealer, awaits_workers, State, closed_lanes, changed, start}
+use Rattle.fq_run.specs.Doing.{Dealer, awaits_start, closes, Caller, begins, closes_start, writes, drains, awaits_dealer, awaits_workers}
+use Rattle.fq_law_progress.specs.Model.{Run, IsRun, Seat, State, closed_lanes, changed, start}
 use Rattle.fq_law_progress.specs.Moves.{Move, put_start, close_start, give_up, write, fail_to_write, hear_stop, find_mark, drop_reply, drop_mark, end_drain, join_dealer, join_worker, take_start, find_no_start, deal, end_reading, pass_start, close_blocks, take_block, put_reply, empty_block, leave, May, after, with_block_taken, with_reply}
 use Rattle.fq_law_progress.proofs.Seats.{changed_each, below_next}
 use Rattle.fq_law_progress.proofs.Turns.{turn_at, share, turn_below, share_less}

@@ -1,6 +1,7 @@
 -- A run on several threads: what each thread does next, and what lies in the lanes between them.
 use Rattle.std.specs.Prelude.{ℕ, ◌≤◌, Bool, false, List, [], ◌==◌, if◌then◌else◌}
 use Rattle.fq_work.specs.Doing.{Reply, Doing, takes}
+use Rattle.fq_run.specs.Doing.{Caller, begins, Dealer, awaits_start, deals, passes_start, closes}
 
 -- What a run is given.
 pub record Run : Type 0 where
@@ -27,34 +28,9 @@ pub record Seat : Type 0 where
   -- whether the collector has taken the mark of the replies
   pub marked : Bool
 
--- what the dealer does next
-pub data Dealer : Type 0 where
-  -- takes the start item, or the mark of the start lane
-  awaits_start : Dealer
-  -- puts a block
-  deals : Dealer
-  -- takes the mark of the start lane
-  passes_start : Dealer
-  -- puts the mark of a lane of blocks. It has put this many
-  closes : ℕ → Dealer
-
--- what the calling thread does next
-pub data Caller : Type 0 where
-  -- puts the start item
-  begins : Caller
-  -- puts the mark of the start lane
-  closes_start : Caller
-  -- takes the reply in turn, and writes it
-  writes : Caller
-  -- takes and drops what comes from any lane
-  drains : Caller
-  -- joins the dealer
-  awaits_dealer : Caller
-  -- joins a worker. It has joined this many
-  awaits_workers : ℕ → Caller
-
 -- a run at one moment
 pub record State : Type 0 where
+  -- what the calling thread and the dealer do next
   pub caller : Caller
   pub dealer : Dealer
   -- whether the start item and the mark of the start lane were put

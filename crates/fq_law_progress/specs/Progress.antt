@@ -1,7 +1,8 @@
 -- What is proved of all runs: none gets stuck, and each ends.
 use Rattle.std.specs.Prelude.{◌≡◌, ◌⊎◌, ℕ, zero, suc, ◌+◌, ◌-◌, ◌*◌, ◌<◌, ◌≤◌, Bool, true, false, List, [], ◌∷◌, length}
 use Rattle.fq_work.specs.Doing.{Doing, takes, answers, empties, left}
-use Rattle.fq_law_progress.specs.Model.{Run, IsRun, Seat, Dealer, awaits_start, deals, passes_start, closes, Caller, begins, closes_start, writes, drains, awaits_dealer, awaits_workers, State, start}
+use Rattle.fq_run.specs.Doing.{Dealer, awaits_start, deals, passes_start, closes, Caller, begins, closes_start, writes, drains, awaits_dealer, awaits_workers}
+use Rattle.fq_law_progress.specs.Model.{Run, IsRun, Seat, State, start}
 use Rattle.fq_law_progress.specs.Moves.{Move, May, after, AreMoves, after_all, is_failure}
 
 -- All threads that were started have returned, and the calling thread has joined them.

@@ -4,6 +4,8 @@ pub mod lanes
 pub mod dealer
 pub mod crew
 pub mod collector
+pub mod Doing
+pub mod Waiting
 pub mod Confirming
 pub mod Threads
 -- Definitions of `fq_run_core` that callers of a run name.

@@ -1,8 +1,10 @@
 //! The part of a threaded run that writes.
 
 ghost use Rattle.std.specs.Prelude.{◌≡◌, ◌≢◌, ◌+◌, ◌<◌, [], None, Bool, IsTrue, is_some, min, if◌then◌else◌, vec_len};
+ghost use Rattle.fq_run.specs.Doing.{writes, drains, awaits_dealer};
 ghost use Rattle.fq_run.specs.collector.Collecting.{Collects, TookAll, before_stop, failed_in};
 ghost use Rattle.fq_run.specs.Shares.{gather};
+ghost use Rattle.fq_run.specs.Waiting.{does_in};
 ghost use Rattle.fq_run_core.specs.Totals.{no_total};
 ghost use Rattle.fq_run_core.specs.Devices.{OutletStates, outlet_states, AreHealthy};
 ghost use Rattle.fq_run.specs.lanes.Items.{names_of, lists_of, AllClosed, IsDealt};
@@ -13,6 +15,7 @@ pub(crate) mod phase;
 mod stops;
 
 use crate::turns::next_turn;
+use crate::waiting::CallerWaits;
 use ends::CollectorEnds;
 use fq_lane::Taken;
 use fq_run_core::Outlets;
@@ -22,7 +25,6 @@ use fq_work::Reply;
 use phase::Phase;
 use std::sync::Wait;
 use std::thread::Parker;
-use std::time::Duration;
 use stops::add_stop;
 
 // How long a collector sleeps after a round in which nothing came, in microseconds: at first, and
@@ -53,11 +55,12 @@ pub(crate) struct Collector {
 ///
 /// Texts that were written go back to their worker for reuse if the lane has room.
 pub(crate) fn collect<R: Wait, O: Outlet>(
-    rt: &R,
+    waits: &mut CallerWaits<'_, R>,
     total: Total,
     replies: Vec<CollectorEnds>,
     outlets: &mut Outlets<O>,
 ) -> Collector
+    requires writes { waits.old ≡ writes }
     requires none { total ≡ no_total (is_some total.tally) }
     requires some { 0 < vec_len replies }
     requires fresh { IsDealt (vec_len replies) [] replies.items }
@@ -73,10 +76,11 @@ pub(crate) fn collect<R: Wait, O: Outlet>(
         (before_stop (gather (lists_of result.replies.items))) }
     // Exactly the stops that were received are noted.
     ensures hears { HearsAll result }
+    ensures next { waits.new ≡ awaits_dealer }
 {
     let mut collector = Collector::new(total, replies);
-    collector.write_all(rt, outlets);
-    collector.drain(rt);
+    collector.write_all(waits, outlets);
+    collector.drain(waits);
     collector
 }
 
@@ -92,6 +96,7 @@ impl Collector {
         ensures hears { HearsAll result }
         ensures replies { result.replies ≡ replies }
         ensures total { result.total ≡ total }
+        ensures phase { result.phase ≡ Phase.Writing }
     {
         Collector {
             replies,
@@ -103,7 +108,12 @@ impl Collector {
     }
 
     // Writes replies in turn, until nothing more is to be written.
-    fn write_all<R: Wait, O: Outlet>(&mut self, rt: &R, outlets: &mut Outlets<O>)
+    fn write_all<R: Wait, O: Outlet>(
+        &mut self,
+        waits: &mut CallerWaits<'_, R>,
+        outlets: &mut Outlets<O>,
+    )
+        requires next { waits.old ≡ does_in self.old.phase }
         requires collects { Collects (is_some self.old.total.tally) (vec_len self.old.replies)
             (outlet_states O.state outlets.old) (outlet_states O.state outlets.old) self.old }
         requires outlets { AreHealthy (outlet_states O.state outlets.old) }
@@ -112,18 +122,24 @@ impl Collector {
         ensures names { names_of self.new.replies.items ≡ names_of self.old.replies.items }
         ensures over { self.new.phase ≢ Phase.Writing }
         ensures hears { HearsAll self.old → HearsAll self.new }
+        ensures next { waits.new ≡ drains }
     {
-        for _ in rt.forever() {
+        for _ in waits.rounds() {
             let Phase::Writing = self.phase else {
                 return;
             };
-            self.write_next(rt, outlets);
+            self.write_next(waits, outlets);
         }
         unreachable!()
     }
 
     // Takes the next reply in turn, and writes its texts.
-    fn write_next<R: Wait, O: Outlet>(&mut self, rt: &R, outlets: &mut Outlets<O>)
+    fn write_next<R: Wait, O: Outlet>(
+        &mut self,
+        waits: &mut CallerWaits<'_, R>,
+        outlets: &mut Outlets<O>,
+    )
+        requires next { waits.old ≡ writes }
         requires writing { self.old.phase ≡ Phase.Writing }
         requires turn { self.old.turn < vec_len self.old.replies }
         requires outlets { AreHealthy (outlet_states O.state outlets.old) }
@@ -134,10 +150,11 @@ impl Collector {
             (outlet_states O.state outlets.new) self.new }
         ensures names { names_of self.new.replies.items ≡ names_of self.old.replies.items }
         ensures hears { HearsAll self.old → HearsAll self.new }
+        ensures next { waits.new ≡ does_in self.new.phase }
     {
         let lanes = self.replies.len();
         let ends = &mut self.replies[self.turn];
-        match ends.replies.take_wait(rt) {
+        match waits.next_reply(ends) {
             None => self.phase = Phase::AtMark,
             Some(Reply::Stop(cause)) => {
                 self.halt = add_stop(self.halt, cause);
@@ -145,12 +162,12 @@ impl Collector {
             }
             Some(Reply::Done(done)) => {
                 if let Err(out) = outlets.write(&done.texts) {
+                    waits.fail_to_write();
                     self.phase = Phase::WriteFailed(out);
                     return;
                 }
                 self.total.add(&done);
-                // Without room in the lane the texts are dropped.
-                let _ = ends.back.offer(done);
+                ends.back.give_back(done);
                 self.turn = next_turn(self.turn, lanes);
             }
         }
@@ -160,21 +177,24 @@ impl Collector {
     //
     // It never waits for one lane alone: the worker of that lane may need a block that the dealer
     // can't send while the lane of another worker is full.
-    fn drain<R: Wait>(&mut self, rt: &R)
+    fn drain<R: Wait>(&mut self, waits: &mut CallerWaits<'_, R>)
         requires over { self.old.phase ≢ Phase.Writing }
+        requires next { waits.old ≡ drains }
         ensures drains { Drains self.old self.new }
         ensures closed { AllClosed self.new.replies.items }
+        ensures next { waits.new ≡ awaits_dealer }
     {
         // Nothing unparks the sleeper, so each sleep lasts its full time.
         let sleeper = Parker::new();
         let mut rest = FIRST_REST;
-        for _ in rt.forever() {
+        for _ in waits.rounds() {
             if are_closed(&self.replies) {
+                waits.end_drain(self);
                 return;
             }
             let found = self.drain_round();
             if !found {
-                sleeper.park_timeout(rt, Duration::from_micros(rest));
+                waits.rest(&sleeper, rest);
             }
             rest = next_rest(found, rest);
         }

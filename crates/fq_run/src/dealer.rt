@@ -2,6 +2,7 @@
 
 ghost use Rattle.std.specs.Prelude.{◌≡◌, ◌≢◌, ◌≤◌, ◌<◌, true, None, [], length, vec_len, vec_capacity};
 ghost use Rattle.std.specs.List.{AllZip};
+ghost use Rattle.fq_run.specs.Doing.{awaits_start, closes};
 ghost use Rattle.fq_run.specs.dealer.DealingOut.{MayDeal, DealsOut};
 ghost use Rattle.fq_run.specs.dealer.Dealt.{CanDeal, HasDealt, Closed};
 
@@ -10,6 +11,7 @@ pub(crate) mod dealing;
 pub(crate) mod dealt;
 pub(crate) mod ends;
 mod filling;
+pub(crate) mod waiting;
 
 use blocks::deal_blocks;
 use dealt::Dealt;
@@ -21,6 +23,7 @@ use fq_run_core::Settings;
 use fq_run_core::shared::ReadingEnd;
 use std::alloc::Global;
 use std::sync::Wait;
+use waiting::DealerWaits;
 
 /// What a dealer takes to its thread.
 #[derive(Drop)]
@@ -54,10 +57,18 @@ pub(crate) fn deal<R: Wait, S: PairReader>(
         mut to,
         closings,
     } = dealer;
-    let why = deal_from(alloc, rt, settings, &mut start, &mut source, &mut to);
+    let mut waits = DealerWaits::new(rt);
+    let why = deal_from(
+        alloc,
+        &mut waits,
+        settings,
+        &mut start,
+        &mut source,
+        &mut to,
+    );
     Dealt {
         start,
-        closings: close_all(to, closings),
+        closings: close_all(&mut waits, to, closings),
         why,
         source,
     }
@@ -68,12 +79,13 @@ pub(crate) fn deal<R: Wait, S: PairReader>(
 #[tactic(auto, using(std::proofs::lemmas::Grind::common_steps, crate::proofs::dealer::DealerLemmas::deals_nothing))]
 fn deal_from<R: Wait, S: PairReader>(
     alloc: Global,
-    rt: &R,
+    waits: &mut DealerWaits<'_, R>,
     settings: &Settings,
     start: &mut Rx<()>,
     source: &mut S,
     to: &mut Vec<DealerEnds>,
 ) -> Option<ReadingEnd>
+    requires next { waits.old ≡ awaits_start }
     requires start { start.old.items ≡ [] }
     requires deals { MayDeal settings.now (S.state source.old) (vec_len to.old) to.old.items }
     ensures name { start.new.name ≡ start.old.name }
@@ -83,39 +95,30 @@ fn deal_from<R: Wait, S: PairReader>(
         → (result ≡ None) × (source.new ≡ source.old) × (to.new ≡ to.old) }
     ensures deals { DealsOut settings.now (S.state source.old)
         (S.state source.new) to.old.items to.new.items result }
+    ensures next { waits.new ≡ closes 0 }
 {
-    start.take_wait(rt)?;
-    let why = deal_blocks(alloc, rt, settings, source, to);
-    pass_start(rt, start);
+    waits.take_start(start)?;
+    let why = deal_blocks(alloc, waits, settings, source, to);
+    waits.pass_start(start);
     Some(why)
-}
-
-// Takes the start lane to its mark.
-fn pass_start<R: Wait>(rt: &R, start: &mut Rx<()>)
-    ensures name { start.new.name ≡ start.old.name }
-    ensures closed { start.new.marked ≡ true }
-    ensures items { length start.old.items ≤ length start.new.items }
-{
-    for _ in rt.forever() {
-        if start.take_wait(rt).is_none() {
-            return;
-        }
-    }
-    unreachable!()
 }
 
 // Closes all lanes.
 #[tactic(auto, using(std::proofs::lemmas::Grind::common_steps, crate::proofs::EachLemmas::one_counted, crate::proofs::EachLemmas::zip_push))]
-fn close_all(
+fn close_all<R>(
+    waits: &mut DealerWaits<'_, R>,
     to: Vec<DealerEnds>,
     closings: Vec<Result<End<Block>, NotEnded>>,
 ) -> Vec<Result<End<Block>, NotEnded>>
-    requires { (closings.items ≡ []) × (vec_len to ≤ vec_capacity closings) }
-    ensures { AllZip Closed to.items result.items }
+    requires next { waits.old ≡ closes 0 }
+    requires room { (closings.items ≡ []) × (vec_len to ≤ vec_capacity closings) }
+    ensures closed { AllZip Closed to.items result.items }
+    ensures next { waits.new ≡ closes (vec_len result) }
 {
     let mut closings = closings;
     for ends in to {
-        closings.push_reserved(ends.to.close());
+        let closing = waits.close_lane(closings.len(), ends);
+        closings.push_reserved(closing);
     }
     closings
 }

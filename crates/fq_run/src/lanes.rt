@@ -1,6 +1,7 @@
 //! The lanes of a run, before its threads start.
 
 pub(crate) mod seats;
+pub(crate) mod used;
 
 use crate::crew::job::Job;
 use fq_block::Block;

@@ -19,6 +19,7 @@ mod crew;
 mod dealer;
 mod threads;
 mod turns;
+mod waiting;
 
 // What a run returns.
 mod conclusion;

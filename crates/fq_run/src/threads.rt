@@ -3,6 +3,7 @@
 ghost use Rattle.std.specs.Prelude.{◌≡◌, ◌≤◌, true, IfOk};
 ghost use Rattle.std.specs.Arc.{arc_value};
 ghost use Rattle.fq_text.specs.Reading.{text_limit};
+ghost use Rattle.fq_run.specs.Doing.{begins};
 ghost use Rattle.fq_run.specs.Confirming.{CanConfirm};
 ghost use Rattle.fq_run_core.specs.Totals.{no_total};
 ghost use Rattle.fq_run_core.specs.Devices.{outlet_states, AreHealthy};
@@ -20,6 +21,7 @@ use crate::dealer::dealing::start_dealer;
 use crate::dealer::dealt::Dealt;
 use crate::lanes::Lanes;
 use crate::lanes::seats::Seats;
+use crate::waiting::CallerWaits;
 use fq_lane::{End, NotEnded};
 use fq_pair::{Out, PairReader};
 use fq_run_core::shared::{Occurred, Total};
@@ -109,14 +111,13 @@ fn start<
         Ok(dealer) => dealer,
         Err(refused) => return Conclusion::unstarted(Outcome::Spawn, None, refused),
     };
+    let mut waits = CallerWaits::new(rt);
     let hands = match start_workers(alloc, rt, settings, gate, ends, hands) {
         Ok(hands) => hands,
         Err((started, refused)) => {
-            // The start lane is closed without an item, so the dealer reads nothing, and closes its
-            // lanes, which ends the workers that were started.
-            let _ = starter.close();
-            let source = dealer.join(rt).into_unread();
-            let _ = join_workers(rt, started, worked);
+            waits.give_up(starter);
+            let source = waits.join_dealer(dealer).into_unread();
+            let _ = join_workers(&mut waits, started, worked);
             return Conclusion::unstarted(Outcome::Spawn, source, refused);
         }
     };
@@ -127,17 +128,18 @@ fn start<
         holds: (**gate).may_hold(),
         worked,
     };
-    attend(rt, crew, total, replies, outlets)
+    attend(waits, crew, total, replies, outlets)
 }
 
 // Lets the dealer start, collects, and waits for all threads.
 fn attend<R: Threads + Wait, S: PairReader, O: Outlet>(
-    rt: &R,
+    waits: CallerWaits<'_, R>,
     crew: Crew<S>,
     total: Total,
     replies: Vec<CollectorEnds>,
     outlets: &mut Outlets<O>,
 ) -> Conclusion<S>
+    requires begins { waits ≡ begins }
     requires total { total ≡ no_total crew.dealer.promise.settings.tallied }
     requires manned { IsManned crew replies.items }
     requires fresh { IsFresh crew.dealer.promise.settings
@@ -155,12 +157,13 @@ fn attend<R: Threads + Wait, S: PairReader, O: Outlet>(
         worked,
         ..
     } = crew;
-    starter.put(rt, ());
-    let started = starter.close();
-    let collector = collect(rt, total, replies, outlets);
+    let mut waits = waits;
+    waits.put_start(&mut starter);
+    let started = waits.close_start(starter);
+    let collector = collect(&mut waits, total, replies, outlets);
     let failed = outlets.flush_after(collector.phase.failed());
-    let dealt = dealer.join(rt);
-    let worked = join_workers(rt, hands, worked);
+    let dealt = waits.join_dealer(dealer);
+    let worked = join_workers(&mut waits, hands, worked);
     conclude(started, dealt, worked, collector, failed)
 }
 

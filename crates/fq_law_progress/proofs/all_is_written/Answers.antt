@@ -1,6 +1,7 @@
 use Rattle.std.proofs.Common.{Bool, true, false, ◌≡◌, ℕ, ◌≤◌, ◌⊎◌, ◌<◌, refl, arith, List, [], ◌∷◌, ◌++◌}
 use Rattle.fq_work.specs.Doing.{texts, stop, Doing, takes, answers, empties, left, Reply}
-use Rattle.fq_law_progress.specs.Model.{Seat, Run, Dealer, awaits_start, deals, passes_start, closes, Caller, begins, closes_start, writes, drains, awaits_dealer, awaits_workers, State, changed, IsRun}
+use Rattle.fq_run.specs.Doing.{Dealer, awaits_start, deals, passes_start, closes, Caller, begins, closes_start, writes, drains, awaits_dealer, awaits_workers}
+use Rattle.fq_law_progress.specs.Model.{Seat, Run, State, changed, IsRun}
 use Rattle.fq_law_progress.specs.Moves.{with_reply_taken, with_reply, find_mark, May, Move, put_start, close_start, give_up, write, fail_to_write, hear_stop, drop_reply, drop_mark, end_drain, join_dealer, join_worker, take_start, find_no_start, deal, end_reading, pass_start, close_blocks, take_block, put_reply, empty_block, leave, after, is_failure, AreMoves, after_all}
 use Rattle.fq_law_progress.specs.Progress.{HaveNoFailure, AllIsWritten}
 use Rattle.fq_law_progress.proofs.Kept.{has_stop, Phase, IsKept, in_hand, in_seat, keeps, all_written}

@@ -1,7 +1,8 @@
 use Rattle.std.proofs.Common.{◌≡◌, ◌⊎◌, inl, inr, ⊎_elim, ℕ, zero, suc, ◌<◌, ◌≤◌, Bool, true, false, List, [], ◌∷◌, length, refl, arith}
 use Rattle.std.proofs.lemmas.Grind.{common_steps}
 use Rattle.fq_work.specs.Doing.{texts, stop, takes, empties, left}
-use Rattle.fq_law_progress.specs.Model.{Run, IsRun, Seat, deals, Caller, begins, closes_start, writes, drains, awaits_dealer, awaits_workers, State, closed_lanes}
+use Rattle.fq_run.specs.Doing.{deals, Caller, begins, closes_start, writes, drains, awaits_dealer, awaits_workers}
+use Rattle.fq_law_progress.specs.Model.{Run, IsRun, Seat, State, closed_lanes}
 use Rattle.fq_law_progress.specs.Moves.{Move, put_start, close_start, give_up, write, hear_stop, find_mark, drop_reply, drop_mark, end_drain, join_dealer, join_worker, take_start, find_no_start, deal, end_reading, pass_start, close_blocks, take_block, put_reply, empty_block, leave, May, after, AreMoves, after_all, is_failure}
 use Rattle.fq_law_progress.specs.Progress.{HasEnded, CanGoOn, NeverStuck}
 use Rattle.fq_law_progress.proofs.Kept.{has_stop, in_seat, IsQuiet, Phase, IsKept, keeps, all_written}

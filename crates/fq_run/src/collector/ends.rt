@@ -1,7 +1,8 @@
 //! The collector's ends of lanes.
 
-use fq_lane::{Rx, Tx};
-use fq_work::{Done, Reply};
+use crate::lanes::used::UsedTexts;
+use fq_lane::Rx;
+use fq_work::Reply;
 use std::marker::Model;
 
 /// The collector's ends of the lanes of one worker. Contracts see the lane of replies alone.
@@ -10,7 +11,7 @@ pub(crate) struct CollectorEnds {
     /// The replies of the worker.
     pub(crate) replies: Rx<Reply>,
     /// Written texts, back to the worker.
-    pub(crate) back: Tx<Done>,
+    pub(crate) back: UsedTexts,
 }
 
 impl Model for CollectorEnds {

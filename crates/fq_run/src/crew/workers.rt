@@ -3,9 +3,11 @@
 ghost use Rattle.std.specs.Prelude.{◌≡◌, ◌≤◌, [], IfOk, IfErr, vec_len, vec_capacity};
 ghost use Rattle.std.specs.Arc.{arc_value};
 ghost use Rattle.std.specs.List.{AllZip};
+ghost use Rattle.fq_run.specs.Doing.{awaits_workers};
 ghost use Rattle.fq_run.specs.crew.Workers.{Seated, Joined};
 
 use crate::crew::job::Job;
+use crate::waiting::CallerWaits;
 use fq_run_core::Settings;
 use fq_text::{MemoryRefused, OutOfMemory};
 use fq_work::{Gate, WorkEnds, Worked, work};
@@ -81,16 +83,19 @@ fn start_worker<R: Threads + Wait + Copy + Send + 'static, H: Gate + 'static>(
 /// Waits for all workers.
 #[tactic(auto, using(std::proofs::lemmas::Grind::common_steps, crate::proofs::EachLemmas::one_counted, crate::proofs::EachLemmas::zip_push))]
 pub(crate) fn join_workers<R: Threads>(
-    rt: &R,
+    waits: &mut CallerWaits<'_, R>,
     hands: Vec<PromisedHandle<Worked, Job>>,
     worked: Vec<Worked>,
 ) -> Vec<Worked>
-    requires { (worked.items ≡ []) × (vec_len hands ≤ vec_capacity worked) }
-    ensures { AllZip Joined hands.items result.items }
+    requires next { waits.old ≡ awaits_workers 0 }
+    requires room { (worked.items ≡ []) × (vec_len hands ≤ vec_capacity worked) }
+    ensures joined { AllZip Joined hands.items result.items }
+    ensures next { waits.new ≡ awaits_workers (vec_len result) }
 {
     let mut worked = worked;
     for hand in hands {
-        worked.push_reserved(hand.join(rt));
+        let one = waits.join_worker(worked.len(), hand);
+        worked.push_reserved(one);
     }
     worked
 }

@@ -1,7 +1,8 @@
 //! The dealer's ends of lanes.
 
+use crate::lanes::used::UsedBlocks;
 use fq_block::Block;
-use fq_lane::{Rx, Tx};
+use fq_lane::Tx;
 use std::marker::Model;
 
 /// The dealer's ends of the lanes of one worker. Contracts see the lane of blocks alone.
@@ -10,7 +11,7 @@ pub(crate) struct DealerEnds {
     /// The blocks to the worker.
     pub(crate) to: Tx<Block>,
     /// Used blocks, back from the worker.
-    pub(crate) back: Rx<Block>,
+    pub(crate) back: UsedBlocks,
 }
 
 impl Model for DealerEnds {

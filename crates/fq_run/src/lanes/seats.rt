@@ -6,6 +6,7 @@ ghost use Rattle.fq_run.specs.lanes.Laying.{IsLaid, AreFor};
 
 use crate::collector::ends::CollectorEnds;
 use crate::dealer::ends::DealerEnds;
+use crate::lanes::used::{UsedBlocks, UsedTexts};
 use fq_lane::lane;
 use fq_report_pairs::Tally;
 use fq_text::OutOfMemory;
@@ -97,7 +98,10 @@ impl Seats {
         let (blocks_back, blocks) = lane(alloc, room_back(depth))?;
         let (texts, texts_back) = lane(alloc, room_back(depth))?;
         let tally = tally_of_none(alloc, tallied)?;
-        self.to.push_reserved(DealerEnds { to, back: blocks });
+        self.to.push_reserved(DealerEnds {
+            to,
+            back: UsedBlocks::over(blocks),
+        });
         self.ends.push_reserved(WorkEnds {
             rx,
             tx,
@@ -107,7 +111,7 @@ impl Seats {
         });
         self.replies.push_reserved(CollectorEnds {
             replies,
-            back: texts,
+            back: UsedTexts::over(texts),
         });
         Ok(())
     }

@@ -13,7 +13,7 @@ returns g c =
       deals = record {
         sent = c.deal_from-why.new.to.items;
         out = c.deal_from-why.ensures.deals;
-        ends = c.close_all.ensures;
+        ends = c.close_all.ensures.closed;
       };
       idle = λ none. let idle = c.deal_from-why.ensures.idle none in
           (idle.0, ap s.state idle.1, ap (λ (v : _). v.items) idle.2);

@@ -623,12 +623,12 @@ conclude-requires-clause-workers g c =
     let tallied = c.args.crew.dealer.promise.settings.tallied in
     let holds = c.args.crew.holds in
     let to = c.args.crew.dealer.promise.to.value.items in
-    let d = c.join-dealt.ensures.deals in
+    let d = c.join_dealer-dealt.ensures.dealt.deals in
     let k = c.collect-collector.result in
     let ws = c.join_workers-worked.result.items in
     let a = all_answered tallied steps holds to m.ends c.args.replies.items _ ws m.laid m.seated
-    c.join_workers-worked.ensures in
-    can_confirm tallied steps holds d.sent c.join-dealt.result.closings.items ws k.replies.items
+    c.join_workers-worked.ensures.joined in
+    can_confirm tallied steps holds d.sent c.join_dealer-dealt.result.closings.items ws k.replies.items
     d.ends (rw (d.out.names, c.collect-collector.ensures.names) a)
     c.collect-collector.ensures.over.1
 
@@ -644,23 +644,23 @@ returns g c =
     let k = c.collect-collector.result in
     let ws = c.join_workers-worked.result.items in
     let a = all_answered tallied steps holds to m.ends c.args.replies.items _ ws m.laid m.seated
-    c.join_workers-worked.ensures in
+    c.join_workers-worked.ensures.joined in
     let len : length to ≡ vec_len c.args.replies =
     laid_length tallied to m.ends c.args.replies.items m.laid
     ∙ omega (arith, c.args.replies.ok.0) in
-    let put : 0 < length c.put.new.self.items =
+    let put : 0 < length c.put_start.new.starter.items =
     omega (
       arith,
-      ap (λ l. length l.items) c.put.ensures,
+      ap (λ l. length l.items) c.put_start.ensures.put,
       length-append crew.starter.items (tt ∷ []),
     ) in
-    let dealt = c.join-dealt.ensures in
+    let dealt = c.join_dealer-dealt.ensures.dealt in
     let collects = rw (asked_by _ _ c.requires.total) at c.collect-collector.ensures.collects in
     let pos : 0 < vec_len c.args.replies = omega (arith, c.args.replies.ok.0, m.some) in
     threaded g.S.PairReader.state crew.dealer.promise.settings _ c.requires.fresh _ _ _
-    c.close-started.result c.put.new.self _ c.join-dealt.result ws k _ c.conclude.result to
+    c.close_start-started.result c.put_start.new.starter _ c.join_dealer-dealt.result ws k _ c.conclude.result to
     (vec_len c.args.replies)
-    c.conclude.ensures c.join-dealt.ensures put c.close-started.ensures
+    c.conclude.ensures c.join_dealer-dealt.ensures.dealt put c.close_start-started.ensures.closed
     (matched tallied steps holds _ _ _ ws k.replies.items a) len
     pos collects
     c.collect-collector.ensures.over.0

@@ -4,6 +4,7 @@ use Rattle.fq_run.specs.collector.Collecting.{Collects}
 use Rattle.fq_run_core.specs.Devices.{outlet_states}
 use Rattle.fq_run.specs.lanes.Items.{names_of}
 use Rattle.fq_run.specs.collector.Stops.{HearsAll}
+use Rattle.fq_run.specs.Waiting.{does_in}
 use Rattle.fq_run.proofs.collector.Collector.write_all.Given as goal
 
 -- what came in turn is written, the lanes are the same, and the stops that came are noted
@@ -16,4 +17,5 @@ invariant-loop g l =
       lanes : vec_len l.self.replies ≡ vec_len l.fn.self.replies;
       names : names_of l.self.replies.items ≡ names_of l.fn.self.replies.items;
       hears : HearsAll l.fn.self → HearsAll l.self;
+      next : l.waits ≡ does_in l.self.phase;
     }

@@ -1,5 +1,5 @@
 use Rattle.std.proofs.Common.{◌≡◌, ◌≤◌, length}
-use Rattle.fq_run.proofs.dealer.pass_start.Given as goal
+use Rattle.fq_run.proofs.dealer.waiting.DealerWaits.pass_start.Given as goal
 
 -- the start lane has the same name, and no fewer items came through it than before
 abbrev pub invariant-loop : goal.invariant-loop
