@@ -1,8 +1,8 @@
 -- What the files of the outputs hold if the program does not end whole.
-use Rattle.std.proofs.Common.{◌≡◌, ◌≢◌, ℕ, IsTrue, IsSome, Option, Some, None, List, [], ◌++◌, refl, sym, ap, subst, ◌∙◌, inl, inr, ◌⊎◌, ⊎_elim}
+use Rattle.std.proofs.Common.{◌≡◌, ◌≢◌, ℕ, IsTrue, Option, Some, None, List, [], ◌++◌, sym, ap, ◌∙◌, inl, inr, ◌⊎◌, ⊎_elim}
 use Rattle.std.proofs.lemmas.List.{append-nil}
-use Rattle.fq_files.specs.Holding.{Holding, IsUnchanged}
-use Rattle.fq_files.specs.States.{FilesState, Keys}
+use Rattle.fq_files.specs.Holding.{Holding}
+use Rattle.fq_files.specs.States.{Keys}
 use Rattle.fq_pair.specs.declared.counts.Counts.{Counts}
 use Rattle.fq_pair.specs.declared.fault.InputFault.{InputFault}
 use Rattle.fq_pair.specs.declared.out.Out.{Out}
@@ -15,12 +15,11 @@ use Rattle.fq_run_core.specs.declared.outcome.Outcome.TheVariants.{Spawn, Write}
 use Rattle.fq_run_core.specs.Devices.{OutletStates, OutletsTook}
 use Rattle.fq_run_core.specs.Endings.{Run, AreFirst, AreTold, EveryEnding, all_pairs, trimmed_outcome}
 use Rattle.fq_run_core.specs.Fates.{Fate, Unbroken, failed_outlet, block_begun, part_begun, IsCutShort}
-use Rattle.fq_app_files.specs.Refusals.{IsMemory, IsReport}
 use Rattle.fq_app_files.specs.declared.refusal.Refusal.{Refusal}
 use Rattle.fq_app_files.specs.declared.refusal.Refusal.TheVariants as why
-use Rattle.fq_app_words.specs.Requests.{Asking, InputNames}
+use Rattle.fq_app_words.specs.Requests.{Asking}
 use Rattle.fq_app_files.specs.Trimming.{IsNoOutput, TrimsFiles, pairs_of}
-use Rattle.fq_app_files.specs.Leaving.{AreUntrimmed, RefusalLeaves, ReportLeft, TellsInputs, is_late, IsTold, HoldFirstPairs}
+use Rattle.fq_app_files.specs.Leaving.{AreUntrimmed, RefusalLeaves, ReportLeft, IsTold, HoldFirstPairs}
 use Rattle.fq_app_files.proofs.MakingLemmas.{output_or_none, stops_untrimmed}
 
 -- The outlets took the texts of the first pairs, whose block was written whole. If a write failed
@@ -55,29 +54,6 @@ first_of c run every told = record {
 
 -- ---- refusals
 
--- a refusal after the inputs are opened says only that both inputs exist
-pub tells_late : (inputs : InputNames) (refusal : Refusal) (old : FilesState)
-    (forward reverse : List ℕ) → IsTrue (is_late refusal)
-    → old.bytes inputs.forward ≡ Some forward → old.bytes inputs.reverse ≡ Some reverse →
-    TellsInputs inputs refusal old
-tells_late inputs (why.Target out cause) old forward reverse late first second =
-    (subst IsSome (sym first) refl, subst IsSome (sym second) refl)
-tells_late inputs (why.Report cause) old forward reverse late first second =
-    (subst IsSome (sym first) refl, subst IsSome (sym second) refl)
-tells_late inputs (why.Memory lacked) old forward reverse late first second = tt
-tells_late inputs why.Encoding old forward reverse late first second =
-    absurd (cc late)
-tells_late inputs (why.Step fault) old forward reverse late first second =
-    absurd (cc late)
-tells_late inputs (why.Setting bad) old forward reverse late first second =
-    absurd (cc late)
-tells_late inputs (why.SameName out) old forward reverse late first second =
-    absurd (cc late)
-tells_late inputs (why.Source side cause) old forward reverse late first second =
-    absurd (cc late)
-tells_late inputs why.SameReport old forward reverse late first second =
-    absurd (cc late)
-
 -- if something was refused, nothing was trimmed
 pub refusal_untrimmed : (a : Asking) (tells : Keys) (refusal : Refusal) (old new : Holding) →
     RefusalLeaves a tells refusal old new → AreUntrimmed a tells old new
@@ -94,38 +70,6 @@ refusal_untrimmed a tells (why.Report cause) old new left =
     ⊎_elim (λ empty out name named told. inr (empty out name named told))
     (λ same out name named told. inl (same name)) left
 refusal_untrimmed a tells (why.Memory lacked) old new left = left
-
--- what a refusal left, after calls that changed nothing
-pub unchanged_or_nothing : (old mid new : Option (List ℕ)) → mid ≡ old →
-    (new ≡ mid) ⊎ (new ≡ Some []) → (new ≡ old) ⊎ (new ≡ Some [])
-unchanged_or_nothing old mid new same (inl kept) = inl (kept ∙ same)
-unchanged_or_nothing old mid new same (inr nothing) = inr nothing
-
--- what a refusal leaves of files that had not changed yet, it leaves of those at the start
-pub leaves_since : (a : Asking) (tells : Keys) (refusal : Refusal) (old mid new : Holding) →
-    IsUnchanged old mid → RefusalLeaves a tells refusal mid new →
-    RefusalLeaves a tells refusal old new
-leaves_since a tells why.Encoding old mid new same left = λ name. left name ∙ same name
-leaves_since a tells (why.Step fault) old mid new same left = λ name. left name ∙ same name
-leaves_since a tells (why.Setting bad) old mid new same left = λ name. left name ∙ same name
-leaves_since a tells (why.SameName out) old mid new same left = λ name. left name ∙ same name
-leaves_since a tells (why.Source side cause) old mid new same left = λ name. left name ∙ same name
-leaves_since a tells (why.Target out cause) old mid new same left = ⊎_elim
-    (λ stops. inl (record {
-      before = stops.before;
-      there = λ name named told. unchanged_or_nothing (old name) (mid name) (new name) (same name)
-          (stops.there name named told);
-      after = λ name after. stops.after name after ∙ same name;
-    }))
-    (λ kept. inr (λ name. kept name ∙ same name)) left
-leaves_since a tells why.SameReport old mid new same left = λ name. left name ∙ same name
-leaves_since a tells (why.Report cause) old mid new same left =
-    ⊎_elim (λ empty. inl empty) (λ kept. inr (λ name. kept name ∙ same name)) left
-leaves_since a tells (why.Memory lacked) old mid new same left =
-    λ out name named told. unchanged_or_nothing (old name) (mid name) (new name) (same name)
-    (left out name named told)
-
--- ---- whole runs
 
 not_spawn : (fault : Option InputFault) → trimmed_outcome fault ≢ Spawn
 not_spawn None e = absurd (cc e)
@@ -162,27 +106,6 @@ whole_first a tells old new outcome counts trims =
     }
 
 -- ---- the report
-
--- a refusal before the report is made leaves its file unchanged
-pub report_after : (refusal : Refusal) (old new : Option (List ℕ)) → new ≡ old →
-    ReportLeft refusal old new
-report_after why.Encoding old new same = same
-report_after (why.Step fault) old new same = same
-report_after (why.Setting bad) old new same = same
-report_after (why.SameName out) old new same = same
-report_after (why.Source side cause) old new same = same
-report_after (why.Target out cause) old new same = same
-report_after why.SameReport old new same = same
-report_after (why.Report cause) old new same = inl same
-report_after (why.Memory lacked) old new same = inl same
-
--- the report itself was refused, or memory for it
-pub report_refused : (refusal : Refusal) (old new : Option (List ℕ)) →
-    IsReport refusal ⊎ IsMemory refusal → (new ≡ old) ⊎ (new ≡ Some []) →
-    ReportLeft refusal old new
-report_refused refusal old new is left =
-    let P : Refusal → Type 0 = λ r. ReportLeft r old new in
-    ⊎_elim (λ report. subst P (sym report.1) left) (λ memory. subst P (sym memory.1) left) is
 
 -- what each refusal leaves in the file of the report
 left_or_nothing : (refusal : Refusal) (old new : Option (List ℕ)) → ReportLeft refusal old new →

@@ -3,7 +3,7 @@ use Rattle.std.proofs.Common.{◌≡◌, ◌≢◌, ◌⊎◌, ◌∙◌, ℕ, B
 use Rattle.std.specs.Prelude.{if◌then◌else◌, unwrap_or}
 use Rattle.fq_text.specs.Scores.{encoding_of}
 use Rattle.fq_files.specs.Holding.{Holding}
-use Rattle.fq_files.specs.States.{Causes, FilesState, Keys, MayRefuse, MayRefuseInput, OnlyOpens, OnlyWrites}
+use Rattle.fq_files.specs.States.{FilesState, MayRefuse, MayRefuseInput, OnlyOpens, OnlyWrites}
 use Rattle.fq_files.specs.declared.files.Cause.{Cause}
 use Rattle.fq_files.specs.declared.files.Cause.TheVariants as cause
 use Rattle.fq_files.specs.declared.files.FileFault.{FileFault}
@@ -12,7 +12,7 @@ use Rattle.fq_files.proofs.StateLemmas.{same_as, told_as}
 use Rattle.fq_pair.specs.declared.out.Out.{Out}
 use Rattle.fq_pair.specs.declared.out.Out.TheVariants.{ForwardPaired, ForwardUnpaired, ReversePaired, ReverseUnpaired, Log}
 use Rattle.fq_pair.specs.declared.side.Side.{Side}
-use Rattle.fq_pair.specs.declared.side.Side.TheVariants.{Forward, Reverse}
+use Rattle.fq_pair.specs.declared.side.Side.TheVariants.{Reverse}
 use Rattle.fq_text.specs.declared.encoding.Encoding.{Encoding}
 use Rattle.fq_run_core.specs.Devices.{place}
 use Rattle.fq_trim.specs.declared.step.Step.{Step}
@@ -23,66 +23,14 @@ use Rattle.fq_run_core.specs.declared.settings.BadSetting.{BadSetting}
 use Rattle.fq_app_words.specs.Requests.{Asking, InputNames, input_name, is_input, output_name, same_log, same_name, report_is_input}
 use Rattle.fq_app_files.specs.declared.refusal.Refusal.{Refusal}
 use Rattle.fq_app_files.specs.declared.refusal.Refusal.TheVariants as why
-use Rattle.fq_app_files.specs.Refusals.{status_of, IsMemory, IsRefusable, IsTarget, IsReport}
+use Rattle.fq_app_files.specs.Refusals.{status_of, IsMemory, IsRefusable}
 use Rattle.fq_app_files.specs.Judging.{choices_of, judged, with_steps, with_encoding, settings_of, wrong_among, wrong_with}
-use Rattle.fq_app_files.specs.Trimming.{Opened, IsMade, IsNoOutput, KeepsUnnamed, AreFed, AreInputsTold, filed}
-use Rattle.fq_app_files.specs.Leaving.{TellsInputs, RefusalLeaves, ReportLeft, is_late}
+use Rattle.fq_app_files.specs.Trimming.{KeepsUnnamed, filed}
+use Rattle.fq_app_files.specs.Leaving.{TellsInputs, is_late}
 use Rattle.fq_app_files.specs.Making.{Made, AreOutputsRefused, IsOutputRefused}
-use Rattle.fq_app_files.specs.Opening.{AreNoInputs, IsRefused, IsUnopened, MayLead, MayRefuseName}
+use Rattle.fq_app_files.specs.Opening.{AreNoInputs, IsRefused, MayLead, MayRefuseName}
 use Rattle.fq_app_files.proofs.FiledLemmas.{named_filed}
-use Rattle.fq_app_files.proofs.LeavingLemmas.{tells_late}
 use Rattle.fq_app_files.proofs.MakingLemmas.{this_or_other}
-
-not_none : (o : Option (List ℕ)) (bytes : List ℕ) → o ≡ Some bytes → o ≡ None → ⊥
-not_none o bytes some none = let bad : Some bytes ≡ None = sym some ∙ none in cc
-
--- the file of an input exists if its feed has the bytes of it
-pub fed_there : (inputs : Opened) (names : InputNames) (old : FilesState) →
-    AreFed inputs names old → (side : Side) → IsTrue (old.tells (input_name names side)) →
-    old.bytes (input_name names side) ≡ None → ⊥
-fed_there inputs names old fed Forward told none =
-    not_none (old.bytes names.forward) _ (fed.forward told).bytes_are none
-fed_there inputs names old fed Reverse told none =
-    not_none (old.bytes names.reverse) _ (fed.reverse told).bytes_are none
-
--- an output was refused, or the report
-pub refused_late : (a : Asking) (refusal : Refusal) (old new : FilesState) (inputs : Opened) →
-    IsTrue (is_late refusal) → status_of refusal ≢ 2 →
-    IsRefusable a (MayLead a.inputs old) refusal
-    → AreFed inputs a.inputs old →
-    RefusalLeaves a old.tells refusal old.bytes new.bytes →
-    ((name : List ℕ) → a.report ≡ Some name → IsTrue (old.tells name) → IsNoOutput a name →
-    ReportLeft refusal (old.bytes name) (new.bytes name)) →
-    KeepsUnnamed a old.bytes new.bytes → IsUnopened a refusal old new
-refused_late a refusal old new inputs after late refused fed left report_left
-    rest = record {
-      late = late;
-      refused = refused;
-      inputs = λ told. tells_late a.inputs refusal old _ _ after
-          (fed.forward told.0).bytes_are (fed.reverse told.1).bytes_are;
-      left = left;
-      report_left = report_left;
-      rest = rest;
-      unopened = λ side told none. absurd (fed_there inputs a.inputs old fed side told none);
-    }
-
--- a refusal of the report, or of memory for it, comes after the inputs, and its status is not 2
-pub report_late : (refusal : Refusal) → IsReport refusal ⊎ IsMemory refusal →
-    IsTrue (is_late refusal)
-report_late refusal is = let P : Refusal → Type 0 = λ r. IsTrue (is_late r) in
-    ⊎_elim (λ report. subst P (sym report.1) refl) (λ memory. subst P (sym memory.1) refl) is
-
--- an output is refused under its name, for the cause that the files gave, if it is not memory for
--- it that was refused
-pub output_refused : (a : Asking) (out : Out) (name : List ℕ) → output_name a out ≡ Some name →
-    (P : List ℕ → Cause → Type 0) (fault : FileFault) (refusal : Refusal) →
-    ((cause : Cause) → fault ≡ Refused cause → P name cause) →
-    ((cause : Cause) × (fault ≡ Refused cause) × (refusal ≡ why.Target out cause))
-    ⊎ IsMemory refusal → IsRefusable a P refusal
-output_refused a out name named P fault refusal so is =
-    let R : Refusal → Type 0 = λ r. IsRefusable a P r in
-    ⊎_elim (λ target. subst R (sym target.2) (name, named, so target.0 target.1))
-    (λ memory. subst R (sym memory.1) tt) is
 
 -- so is the report
 pub report_is_refused : (a : Asking) (name : List ℕ) → a.report ≡ Some name →
@@ -94,12 +42,6 @@ report_is_refused a name named P fault refusal so is =
     let R : Refusal → Type 0 = λ r. IsRefusable a P r in
     ⊎_elim (λ report. subst R (sym report.2) (name, named, so report.0 report.1))
     (λ memory. subst R (sym memory.1) tt) is
-
--- the refusal of an output comes after the inputs
-pub output_late : (out : Out) (refusal : Refusal) → IsTarget out refusal ⊎ IsMemory refusal →
-    IsTrue (is_late refusal)
-output_late out refusal is = let P : Refusal → Type 0 = λ r. IsTrue (is_late r) in
-    ⊎_elim (λ target. subst P (sym target.1) refl) (λ memory. subst P (sym memory.1) refl) is
 
 -- a refusal that can come once both inputs are opened doesn't have exit status 2
 pub late_status : (refusal : Refusal) → IsTrue (is_late refusal) → status_of refusal ≢ 2
@@ -231,42 +173,6 @@ pub wrong_refused : (a f : Asking) (refusal : Refusal) (files : FilesState) →
 wrong_refused a f refusal files wrong = first_refused a f refusal files
     (wrong_first a (settings_of a) (same_name a) (report_is_input a) refusal refl wrong)
 
--- what holds of the name that was refused, and of the cause
-pub refusable_so : (a : Asking) (P Q : List ℕ → Cause → Type 0) (refusal : Refusal) →
-    ((name : List ℕ) (given : Cause) → P name given → Q name given) → IsRefusable a P refusal →
-    IsRefusable a Q refusal
-refusable_so a P Q (why.Target out given) so refused =
-    (refused.0, refused.1, so refused.0 given refused.2)
-refusable_so a P Q (why.Report given) so refused =
-    (refused.0, refused.1, so refused.0 given refused.2)
-refusable_so a P Q (why.Memory lacked) so refused = refused
-refusable_so a P Q why.Encoding so refused = refused
-refusable_so a P Q (why.Step fault) so refused = refused
-refusable_so a P Q (why.Setting bad) so refused = refused
-refusable_so a P Q (why.SameName out) so refused = refused
-refusable_so a P Q (why.Source side cause) so refused = refused
-refusable_so a P Q why.SameReport so refused = refused
-
--- a name that may be refused after the inputs are opened
-pub refusable_since : (a : Asking) (old : FilesState) (refuses : Causes) (opened : Keys)
-    (refusal : Refusal) → refuses ≡ old.refuses →
-    ((name : List ℕ) → IsTrue (opened name) → MayLead a.inputs old name cause.Input) →
-    IsRefusable a
-    (λ name given. IsTrue (refuses name given) ⊎ ((given ≡ cause.Input) × IsTrue (opened name)))
-    refusal → IsRefusable a (MayLead a.inputs old) refusal
-refusable_since a old refuses opened refusal same led refused =
-    refusable_so a
-    (λ name given. IsTrue (refuses name given) ⊎ ((given ≡ cause.Input) × IsTrue (opened name)))
-    (MayLead a.inputs old) refusal
-    (λ name given. ⊎_elim
-    (λ may. inr (inl (subst (λ (r : Causes). IsTrue (r name given)) same may)))
-    (λ leads. subst (λ (x : Cause). MayLead a.inputs old name x) (sym leads.0)
-    (led name leads.1))) refused
-
-clash : (b : Bool) → IsTrue b → b ≡ false → ⊥
-clash true is none = absurd (cc none)
-clash false is none = absurd (cc is)
-
 if_none : (b : Bool) (out : Out) (rest : Option Out) → (if b then Some out else rest) ≡ None →
     (b ≡ false) × (rest ≡ None)
 if_none true out rest none = absurd (cc none)
@@ -376,35 +282,6 @@ refusable_right a old refusal right refused =
 pub inputs_kept : (a : Asking) (old new : Holding) → AreNoInputs a → KeepsUnnamed a old new →
     (side : Side) → new (input_name a.inputs side) ≡ old (input_name a.inputs side)
 inputs_kept a old new apart kept side = kept _ (apart side).0 (apart side).1
-
--- no output leads to an input whose bytes are known, and nor does the report
-pub leads_nowhere : (a : Asking) (before after tells : Keys) → after ≡ before
-    → ((out : Out) (name : List ℕ) → output_name a out ≡ Some name → IsTrue (tells name) →
-    before name ≡ false) →
-    ((name : List ℕ) → a.report ≡ Some name → IsTrue (tells name) → before name ≡ false) →
-    (name : List ℕ) → IsMade a name → IsTrue (tells name) → IsTrue (after name) → ⊥
-leads_nowhere a before after tells same outputs report name made told leads =
-    let led : IsTrue (before name) = subst (λ (names : Keys). IsTrue (names name)) same leads in
-    ⊎_elim (λ output. clash (before name) led (outputs output.0 name output.1 told))
-    (λ named. clash (before name) led (report name named told)) made
-
--- if no output leads to an input, and nor does the report, their files are none of the inputs
-pub no_inputs : (a : Asking) (is_open tells : Keys) →
-    ((side : Side) → IsTrue (is_open (input_name a.inputs side)))
-    → ((out : Out) (name : List ℕ) → output_name a out ≡ Some name → IsTrue (tells name) →
-    is_open name ≡ false) →
-    ((name : List ℕ) → a.report ≡ Some name → IsTrue (tells name) → is_open name ≡ false) →
-    AreInputsTold a.inputs tells → AreNoInputs a
-no_inputs a is_open tells opened outputs report told Forward = (
-  λ out named. clash _ (opened Forward) (outputs out _ named told.0),
-  λ named. clash _ (opened Forward) (report _ named told.0),
-)
-no_inputs a is_open tells opened outputs report told Reverse = (
-  λ out named. clash _ (opened Reverse) (outputs out _ named told.1),
-  λ named. clash _ (opened Reverse) (report _ named told.1),
-)
-
--- ---- the reverse input
 
 -- it was refused after the forward one was opened, which changed no file
 pub tells_reverse : (inputs : InputNames) (refusal : Refusal) (old mid : FilesState) →
