@@ -20,7 +20,6 @@ use Rattle.fq_app_files.specs.Trimming.{filed, AreInputsTold}
 use Rattle.fq_app_files.specs.Leaving.{AreLeft}
 use Rattle.fq_app.specs.Answers.{Device, IsReportLeft, IsReportUncut, LacksMemory, TookMemoryLine, TookText, PairsAnswered, TookLine, memory_line}
 use Rattle.fq_app_files.specs.declared.seeing.EndingSeen.{EndingSeen}
-use Rattle.fq_app_files.specs.declared.reporting.Reported.TheVariants as report
 use Rattle.fq_app_files.specs.Reporting.{HoldsReport}
 
 -- what was read of the arguments is what they ask for

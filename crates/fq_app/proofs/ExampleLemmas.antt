@@ -1,5 +1,5 @@
 -- What a run on the example's inputs writes.
-use Rattle.std.proofs.Common.{◌≡◌, ◌∙◌, ℕ, IsTrue, IsSome, IfSome, MatchOption, Some, None, Option, List, [], ◌++◌, ap, refl, sym, append_assoc}
+use Rattle.std.proofs.Common.{◌≡◌, ◌∙◌, ℕ, IsSome, IfSome, MatchOption, Some, None, Option, List, [], ◌++◌, ap, refl, sym, append_assoc}
 use Rattle.fq_pair.specs.declared.out.Out.{Out}
 use Rattle.fq_pair.specs.Pairing.{pairs}
 use Rattle.fq_pair.specs.Outputs.{texts_of, text_of, counts_of}

@@ -2,7 +2,6 @@
 use Rattle.std.proofs.Common.{◌≡◌, ◌≢◌, ◌++◌, ℕ, zero, suc, ◌+◌, ◌-◌, ◌*◌, ◌<◌, ◌≤◌, Bool, true, IsTrue, Option, Some, None, is_some, IfSome, Ok, List, [], ◌∷◌, length, option_map, refl, sym, subst, ◌∙◌, arith}
 use Rattle.std.specs.Prelude.{take_while}
 use Rattle.std.proofs.lemmas.List.{length-take}
-use Rattle.fq_files.specs.Holding.{Holding}
 use Rattle.fq_files.specs.States.{FilesState, KeepsFailed}
 use Rattle.fq_text.specs.declared.encoding.Encoding.{Encoding}
 use Rattle.fq_text.specs.Devices.{FeedState, OutletState}

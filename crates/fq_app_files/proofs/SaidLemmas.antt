@@ -17,7 +17,7 @@ use Rattle.fq_run_core.specs.declared.outcome.Outcome.TheVariants.{Spawn, Lane, 
 use Rattle.fq_run_core.specs.declared.outlets.Outlets.{Outlets}
 use Rattle.fq_run_core.specs.Choices.{Choices}
 use Rattle.fq_run_core.specs.Endings.{EveryEnding, Run, failures_in, feed_left}
-use Rattle.fq_app_words.specs.Requests.{Asking, InputNames, input_name, output_name}
+use Rattle.fq_app_words.specs.Requests.{Asking, input_name, output_name}
 use Rattle.fq_app_files.specs.Faults.{settled}
 use Rattle.fq_app_files.specs.Trimming.{filed}
 use Rattle.fq_app_files.proofs.FailureLemmas.{wanted_output, write_failed}

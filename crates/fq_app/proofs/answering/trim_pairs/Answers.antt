@@ -15,7 +15,7 @@ use Rattle.fq_app_files.specs.Opening.{MayRefuseName}
 use Rattle.fq_pair.specs.declared.counts.Counts.{Counts}
 use Rattle.fq_pair.specs.declared.side.Side.{Side}
 use Rattle.fq_run.specs.Outcome.{Outcome}
-use Rattle.fq_run.specs.Outcome.TheVariants.{Lane, Gate, Memory}
+use Rattle.fq_run.specs.Outcome.TheVariants.{Lane, Gate}
 use Rattle.fq_run.specs.Endings.{ends_whole}
 use Rattle.fq_text.specs.Written.{line}
 use Rattle.fq_text.specs.declared.seen.SystemError.{SystemError}

@@ -7,7 +7,7 @@ use Rattle.fq_run_core.specs.Devices.{outlet_states}
 use Rattle.fq_app_files.specs.Trimming.{filed, opened_of, AreEmpty, AreInputsTold, WriteTheirs, AreHeld, Opened, IsMade, IsNoOutput, KeepsUnnamed, AreFed}
 use Rattle.fq_app_files.proofs.FiledLemmas.{leads_as}
 use Rattle.fq_app_files.proofs.MakingLemmas.{rest_made, this_or_other}
-use Rattle.fq_app_files.proofs.OpeningLemmas.{late_status, inputs}
+use Rattle.fq_app_files.proofs.OpeningLemmas.{late_status}
 use Rattle.fq_app_files.proofs.opening.open.Goals as goal
 use Rattle.fq_files.specs.Holding.{Holding, IsUnchanged}
 use Rattle.fq_app_files.specs.Refusals.{IsMemory, IsReport, status_of, IsRefusable}
@@ -19,8 +19,6 @@ use Rattle.fq_files.specs.declared.files.Cause.{Cause}
 use Rattle.fq_pair.specs.declared.out.Out.{Out}
 use Rattle.fq_pair.specs.declared.side.Side.{Side}
 use Rattle.fq_pair.specs.declared.side.Side.TheVariants.{Forward, Reverse}
-use Rattle.fq_text.specs.declared.encoding.Encoding.{Encoding}
-use Rattle.fq_trim.specs.declared.step.Step.{Step}
 use Rattle.fq_app_files.specs.Opening.{AreNoInputs, IsUnopened, MayLead}
 use Rattle.fq_app_files.specs.declared.refusal.Refusal.TheVariants as why
 use Rattle.fq_files.specs.declared.files.Cause.TheVariants as cause

@@ -21,7 +21,6 @@ use Rattle.fq_app_files.specs.Leaving.{StopsAt, RefusalLeaves, is_late}
 use Rattle.fq_app_files.specs.Making.{AreMade, Made, StopsMaking, Unmade}
 use Rattle.fq_app_files.proofs.StoreLemmas.{same_place, below_next}
 use Rattle.fq_files.specs.declared.files.FileFault.{FileFault}
-use Rattle.fq_files.specs.declared.files.Cause.TheVariants as cause
 
 -- an output was made, empty if its bytes are known, and no other file changed
 record IsMade (a : Asking) (tells : Keys) (out : Out) (old new : Holding) : Type 0 where
