@@ -11,6 +11,10 @@
 # is dropped (error[linear-value-let-go]), or is forgotten without being `Drop`
 # (error[unsatisfied-bound]). The unchanged lane must have no error.
 #
+# In the lanes of a run that lead back: a dealer that waits for a used block, and a collector that
+# waits for room for used texts. Each must be refused by exactly one error (error[unknown-method]),
+# and what they do without waiting by none.
+#
 # Of the witness: one that is made of nothing. It must be refused by exactly one error
 # (error[private-field]), and one that is made of the error of std by none. That error itself is
 # written as a value only in the files that are named below, where something else stands for it. So
@@ -168,6 +172,46 @@ try_in_lane "a witness that is forgotten" unsatisfied-bound rx.rt \
   'freed.wake_sender(&self.parkers);' \
   'std::mem::forget(freed);'
 
+# The lanes that lead back are tried in a crate that has their file, with blocks and texts of its own.
+mkdir -p "$room/crates/back/src"
+sed -E 's/^use fq_(block|work)::/use crate::/' "$tree/crates/fq_run/src/lanes/used.rt" \
+  > "$room/crates/back/src/used.rt"
+echo 'back: fq_lane' >> "$room/crates.txt"
+
+# try_back NAME WANTED CALL: checks a call on the lane of used blocks, or on that of used texts.
+try_back() {
+  cat > "$room/crates/back/src/lib.rt" << RT
+//! The lanes of a run that lead back.
+#![tactic(auto)]
+
+mod used;
+
+use fq_lane::{Rx, Tx};
+use std::sync::Wait;
+use used::{UsedBlocks, UsedTexts};
+
+#[derive(Drop)]
+pub struct Block;
+
+#[derive(Drop)]
+pub struct Done;
+
+pub fn use_both<R: Wait>(rt: &R, blocks: Rx<Block>, texts: Tx<Done>) {
+    let mut blocks = UsedBlocks::over(blocks);
+    let mut texts = UsedTexts::over(texts);
+    let _ = blocks.take();
+    texts.give_back(Done);
+    $3
+}
+RT
+  (cd "$room/crates/back" && rt check) > "$room/log" 2>&1
+  judge "$1" "$2" $?
+}
+
+try_back "a block that is taken if it came back" none 'let _ = rt;'
+try_back "a wait for a used block" unknown-method 'let _ = blocks.take_wait(rt);'
+try_back "a wait for room for used texts" unknown-method 'texts.put(rt, Done);'
+
 # The witness is tried in a crate that has its file alone.
 mkdir -p "$room/crates/witness/src"
 cp "$tree/crates/fq_text/src/memory.rt" "$room/crates/witness/src/"
@@ -225,4 +269,4 @@ made=$(grep -rnE 'TextFault::OutOfMemory|NoSource \{|SpawnError \{' --include='*
   grep -vE '^crates/fq_t(ext|est_[a-z_]+)/|TextFault::OutOfMemory\)* (=>|\|)')
 [ -z "$made" ] || fail "a fault or an error that stands for refused memory is made in: $made"
 
-finish 'ok, 10 misuses refused and 3 uses accepted'
+finish 'ok, 12 misuses refused and 4 uses accepted'

@@ -1,8 +1,9 @@
 #!/usr/bin/env bash
 # Where the threads of a run may wait is as the table of docs/ARCHITECTURE.md says, on which the
 # model of their progress rests. Two changes that the prover accepts, and that let a run hang, are
-# refused: a worker that first waits for texts to come back, and a reader that is joined before
-# anything is written.
+# refused: a worker that first waits for texts to come back, and a collector that sleeps until it is
+# woken. That threads are joined too early, and that a dealer or a collector waits for what comes
+# back, the prover and the types refuse.
 # Status 77, and 'skipped', if a package is missing.
 set -uo pipefail
 . "$(dirname "$0")/common.bash"
@@ -32,6 +33,6 @@ refused() {
 python3 tests/waits/check.py . || fail 'docs/ARCHITECTURE.md has another table'
 refused work fq_work/src/worker.rt \
   's/let mut returns = /let mut texts_back = texts_back; let _ = texts_back.take_wait(rt); &/'
-refused attend fq_run/src/threads.rt \
-  '/let dealt = dealer\.join\(rt\);/d; s/let collector = collect\(/let dealt = dealer.join(rt); &/'
+refused rest fq_run/src/waiting.rt \
+  's/sleeper\.park_timeout\(self\.rt, .*\);/let _ = microseconds; sleeper.park(self.rt);/'
 finish ok

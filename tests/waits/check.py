@@ -1,10 +1,11 @@
 #!/usr/bin/env python3
 """Compares the calls of fq_work and fq_run that may wait with the table of docs/ARCHITECTURE.md.
 
-A function waits only by what it was given to wait with, the value `rt`. So it lists, for each
-function and in the order of the code, the calls that `rt` is passed to, its own endless loops, and
-the lanes that it closes. A function with a single such call, of another function of its crate, only
-hands it on and isn't listed. Call it with a directory that has docs/ and crates/.
+A function waits only by what it was given to wait with: `rt`, or the value `waits` that has it. So it
+lists, for each function and in the order of the code, the calls that one of them is passed to, the
+calls of `waits`, its own endless loops, and the lanes that it closes. A function with a single such
+call, of another function of its crate, only hands it on and isn't listed. Call it with a directory
+that has docs/ and crates/.
 """
 import re
 import sys
@@ -12,9 +13,9 @@ from pathlib import Path
 
 CRATES = ("fq_work", "fq_run")
 FUNCTION = re.compile(r"\bfn (\w+)")
-CALL = re.compile(r"\brt\.(forever)\(|\.(close)\(\)|\b(\w+)\((?=([^()]*))")
-WAITERS = {"rt", "&rt", "self.rt", "own", "&own"}
-FIRST, OTHERS = "| Function that may wait |", re.compile(r"\| `(\w+)` \| `(\S+)` \| (.*) \|$")
+CALL = re.compile(r"\b(?:rt|waits)\.(\w+)\(|\.(close)\(\)|\b(\w+)\((?=([^()]*))")
+WAITERS = {"rt", "&rt", "self.rt", "own", "&own", "waits", "&mut waits"}
+FIRST, OTHERS = "| File | Functions that may wait", re.compile(r"\| `(\S+)` \| (.*) \|$")
 
 
 def calls_of(text):
@@ -49,8 +50,9 @@ def table_of(document):
     for line in document.read_text(encoding="utf-8").splitlines():
         inside = line.startswith(FIRST) or (inside and line.startswith("|"))
         row = OTHERS.match(line)
-        if inside and row:
-            rows[row[1], row[2]] = re.findall(r"`(\w+)`", row[3])
+        for function in row[2].split("; ") if inside and row else ():
+            name, *calls = re.findall(r"`(\w+)`", function)
+            rows[name, row[1]] = calls
     return rows
 
 

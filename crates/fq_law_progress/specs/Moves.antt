@@ -60,11 +60,14 @@ May p s fail_to_write =
 May p s hear_stop =
     (s.caller ≡ caller_before heard_stop) × (s.turn < p.workers)
     × (next_reply (s.seats s.turn).replies ≡ Some stop)
-May p s find_mark = (s.caller ≡ caller_before found_mark) × (s.turn < p.workers) × IsAtMark (s.seats s.turn)
+May p s find_mark =
+    (s.caller ≡ caller_before found_mark) × (s.turn < p.workers) × IsAtMark (s.seats s.turn)
 -- Afterwards it takes from any lane, until it has the mark of each.
-May p s (drop_reply j) = (s.caller ≡ caller_before dropped) × (j < p.workers) × (0 < length (s.seats j).replies)
+May p s (drop_reply j) =
+    (s.caller ≡ caller_before dropped) × (j < p.workers) × (0 < length (s.seats j).replies)
 May p s (drop_mark j) =
-    (s.caller ≡ caller_before dropped) × (j < p.workers) × ((s.seats j).marked ≡ false) × IsAtMark (s.seats j)
+    (s.caller ≡ caller_before dropped) × (j < p.workers) × ((s.seats j).marked ≡ false)
+    × IsAtMark (s.seats j)
 May p s end_drain =
     (s.caller ≡ caller_before drained) × ((j : ℕ) → j < p.workers → (s.seats j).marked ≡ true)
 -- A thread is joined once it has returned.

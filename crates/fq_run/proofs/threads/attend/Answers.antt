@@ -628,7 +628,8 @@ conclude-requires-clause-workers g c =
     let ws = c.join_workers-worked.result.items in
     let a = all_answered tallied steps holds to m.ends c.args.replies.items _ ws m.laid m.seated
     c.join_workers-worked.ensures.joined in
-    can_confirm tallied steps holds d.sent c.join_dealer-dealt.result.closings.items ws k.replies.items
+    can_confirm tallied steps holds d.sent c.join_dealer-dealt.result.closings.items ws
+    k.replies.items
     d.ends (rw (d.out.names, c.collect-collector.ensures.names) a)
     c.collect-collector.ensures.over.1
 
@@ -658,7 +659,8 @@ returns g c =
     let collects = rw (asked_by _ _ c.requires.total) at c.collect-collector.ensures.collects in
     let pos : 0 < vec_len c.args.replies = omega (arith, c.args.replies.ok.0, m.some) in
     threaded g.S.PairReader.state crew.dealer.promise.settings _ c.requires.fresh _ _ _
-    c.close_start-started.result c.put_start.new.starter _ c.join_dealer-dealt.result ws k _ c.conclude.result to
+    c.close_start-started.result c.put_start.new.starter _ c.join_dealer-dealt.result ws k _
+    c.conclude.result to
     (vec_len c.args.replies)
     c.conclude.ensures c.join_dealer-dealt.ensures.dealt put c.close_start-started.ensures.closed
     (matched tallied steps holds _ _ _ ws k.replies.items a) len

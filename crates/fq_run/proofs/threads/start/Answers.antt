@@ -22,6 +22,7 @@ returns-in-Err-start_workers g c =
     let left = c.into_unread-source.result in
     let back = unread s.state (s.state c.args.source) left
     (idle s.state _ _ _ _ _ _ _ _ _ c.join_dealer.result.source left
-    (ap s.state c.in-Ok.ensures.source) refl c.join_dealer.ensures.dealt c.into_unread-source.ensures) in
+    (ap s.state c.in-Ok.ensures.source) refl c.join_dealer.ensures.dealt
+    c.into_unread-source.ensures) in
     rw c.unstarted-in-Err-start_workers.ensures (unstarted _ _ _ _ _ _ _ back.0 back.1
     (of_one (λ x. feed_in (s.state x).forward) (λ x. feed_in (s.state x).reverse) left) _ _)

@@ -165,7 +165,8 @@ returns-in-Err g c =
     let k = c.args.self.now in
     let lt : k.turn < length k.replies.items = omega (arith, k.replies.ok.0) in
     let t = taken_at _ _ _ _ k.turn _ _ _ (ap taken_of (c.in-Some-Done.is
-    ∙ ap Some c.in-Some-Done.field-0-is)) lt c.index_mut-ends.ensures.value c.next_reply.ensures.takes refl in
+    ∙ ap Some c.in-Some-Done.field-0-is)) lt c.index_mut-ends.ensures.value
+    c.next_reply.ensures.takes refl in
     record {
       collects = λ tallied before h. collects_broken tallied _ before _ _ k _ c.in-Some-Done.done
           c.in-Err.out h c.requires.writing refl t c.in-Err.ensures refl refl;
@@ -180,7 +181,8 @@ returns-in_default g c =
     let k = c.args.self.now in
     let lt : k.turn < length k.replies.items = omega (arith, k.replies.ok.0) in
     let t = taken_at _ _ _ _ k.turn _ _ c.ends.inside.replies (ap taken_of (c.in-Some-Done.is
-    ∙ ap Some c.in-Some-Done.field-0-is)) lt c.index_mut-ends.ensures.value (rw c.ends.view_is c.next_reply.ensures.takes) refl in
+    ∙ ap Some c.in-Some-Done.field-0-is)) lt c.index_mut-ends.ensures.value
+    (rw c.ends.view_is c.next_reply.ensures.takes) refl in
     record {
       collects = λ tallied before h. collects_written tallied _ before _ _ k _ c.in-Some-Done.done h
           c.requires.writing c.requires.writing t c.in_default.ensures
@@ -195,7 +197,8 @@ pub returns-in-None : goal.returns-in-None
 returns-in-None g c =
     let k = c.args.self.now in
     let lt : k.turn < length k.replies.items = omega (arith, k.replies.ok.0) in
-    let t = taken_at _ _ _ _ k.turn _ _ _ (ap taken_of c.in-None.is) lt c.index_mut-ends.ensures.value c.next_reply.ensures.takes refl in
+    let t = taken_at _ _ _ _ k.turn _ _ _ (ap taken_of c.in-None.is) lt
+    c.index_mut-ends.ensures.value c.next_reply.ensures.takes refl in
     record {
       collects = λ tallied before h. collects_at_mark tallied _ before _ k _ h c.requires.writing
           refl t refl refl;
@@ -210,7 +213,8 @@ returns-in-Some-Stop g c =
     let k = c.args.self.now in
     let lt : k.turn < length k.replies.items = omega (arith, k.replies.ok.0) in
     let t = taken_at _ _ _ _ k.turn _ _ _ (ap taken_of (c.in-Some-Stop.is
-    ∙ ap Some c.in-Some-Stop.field-0-is)) lt c.index_mut-ends.ensures.value c.next_reply.ensures.takes refl in
+    ∙ ap Some c.in-Some-Stop.field-0-is)) lt c.index_mut-ends.ensures.value
+    c.next_reply.ensures.takes refl in
     record {
       collects = λ tallied before h. collects_stopped tallied _ before _ k _ c.in-Some-Stop.cause h
           c.requires.writing refl t c.add_stop-self.ensures refl refl;

@@ -35,8 +35,8 @@ dealing-preserved g c =
       deals = deals_more c.args.settings.now _ _ _ _ _ _ _ _ _ _ _ _ _ c.dealing.invariant.deals
           filled (ap (λ (b : Numbered). b.number) c.ready_block-block.ensures.block)
           (ap (λ (b : Numbered). b.encoding) c.ready_block-block.ensures.block ∙ c.encoding.ensures)
-          (c.ready_block-block.ensures.unsent ∙ c.index_mut-ends.ensures.value) c.put_filled.ensures.sends
-          c.in_default.is (omega arith) c.next_turn-turn.result
+          (c.ready_block-block.ensures.unsent ∙ c.index_mut-ends.ensures.value)
+          c.put_filled.ensures.sends c.in_default.is (omega arith) c.next_turn-turn.result
           (c.next_turn-turn.ensures.value ∙ ap (λ n. suc c.dealing.turn % n) lanes)
           (omega (arith, c.next_turn-turn.ensures.below));
       next = c.put_filled.ensures.next;
