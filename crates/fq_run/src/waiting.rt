@@ -138,7 +138,8 @@ impl<'a, R: Wait> CallerWaits<'a, R> {
         reply
     }
 
-    /// Sleeps for this many microseconds, because nothing had come through any lane. This is no move.
+    /// Sleeps for this many microseconds, because nothing had come through any lane. In the model
+    /// this is no move.
     pub(crate) fn rest(&self, sleeper: &Parker, microseconds: u64)
         requires may { self.now ≡ drains }
     {
