@@ -124,6 +124,7 @@ after p s put_start = record s { caller = caller_after began; start_item = true 
 after p s give_up = record s { caller = caller_after gave_up; start_mark = true }
 after p s close_start = record s { caller = caller_after closed_start; start_mark = true }
 after p s write = record s {
+  caller = caller_after wrote;
   written = suc s.written;
   turn = next_turn p s.turn;
   seats = changed s.turn (with_reply_taken (s.seats s.turn)) s.seats;
@@ -140,14 +141,17 @@ after p s find_mark = record s {
   caller = caller_after found_mark;
   seats = changed s.turn (record (s.seats s.turn) { marked = true }) s.seats;
 }
-after p s (drop_reply j) = at_seat s j (with_reply_taken (s.seats j))
-after p s (drop_mark j) = at_seat s j (record (s.seats j) { marked = true })
+after p s (drop_reply j) =
+    at_seat (record s { caller = caller_after dropped }) j (with_reply_taken (s.seats j))
+after p s (drop_mark j) =
+    at_seat (record s { caller = caller_after dropped }) j (record (s.seats j) { marked = true })
 after p s end_drain = record s { caller = caller_after drained }
 after p s join_dealer = record s { caller = caller_after joined_dealer }
 after p s (join_worker k) = record s { caller = caller_after (joined_worker k) }
 after p s take_start = record s { dealer = dealer_after took_start }
 after p s find_no_start = record s { dealer = dealer_after found_no_start }
 after p s deal = record s {
+  dealer = dealer_after put_block;
   dealt = suc s.dealt;
   deal_turn = next_turn p s.deal_turn;
   seats = changed s.deal_turn (with_block (s.seats s.deal_turn)) s.seats;

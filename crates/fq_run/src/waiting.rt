@@ -4,7 +4,7 @@
 ghost use Rattle.std.specs.Prelude.{◌≡◌, ◌<◌, ◌+◌, ◌^◌, [], IfOk};
 ghost use Rattle.fq_lane.specs.History.{with_item, with_mark};
 ghost use Rattle.fq_lane.specs.Take.{Takes, taken_of};
-ghost use Rattle.fq_run.specs.Doing.{begins, writes, began, closed_start, gave_up, failed_to_write, dropped, drained, joined_dealer, joined_worker, caller_before, caller_after};
+ghost use Rattle.fq_run.specs.Doing.{begins, writes, drains, began, closed_start, gave_up, failed_to_write, drained, joined_dealer, joined_worker, caller_before, caller_after};
 ghost use Rattle.fq_run.specs.Waiting.{got};
 ghost use Rattle.fq_run.specs.crew.Workers.{Joined};
 ghost use Rattle.fq_run.specs.dealer.Dealt.{HasDealt};
@@ -138,9 +138,10 @@ impl<'a, R: Wait> CallerWaits<'a, R> {
         reply
     }
 
-    /// Sleeps for this many microseconds, because nothing had come through any lane.
+    /// Sleeps for this many microseconds, because nothing had come through any lane. In the model
+    /// this is no move.
     pub(crate) fn rest(&self, sleeper: &Parker, microseconds: u64)
-        requires may { self.now ≡ caller_before dropped }
+        requires may { self.now ≡ drains }
     {
         sleeper.park_timeout(self.rt, Duration::from_micros(microseconds));
     }

@@ -85,9 +85,9 @@ stays_sound p s hear_stop run all kept sound may safe = grind (arith, common_ste
 stays_sound p s find_mark run all kept sound may safe =
     grind (arith, common_steps, calm_marked, written_at_mark)
 stays_sound p s (drop_reply j) run all kept sound may safe =
-    sound_at p s j (with_reply_taken (s.seats j)) sound (calm_taken (s.seats j))
+    grind (arith, common_steps, calm_taken)
 stays_sound p s (drop_mark j) run all kept sound may safe =
-    sound_at p s j (record (s.seats j) { marked = true }) sound (calm_marked (s.seats j))
+    grind (arith, common_steps, calm_marked)
 stays_sound p s end_drain run all kept sound may safe = grind (arith, common_steps)
 stays_sound p s join_dealer run all kept sound may safe = grind (arith, common_steps)
 stays_sound p s (join_worker k) run all kept sound may safe = grind (arith, common_steps)
