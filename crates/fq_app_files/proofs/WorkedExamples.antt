@@ -1,6 +1,6 @@
 -- A request whose two unpaired outputs lead to one file, of which no bytes are known to the proof,
 -- as `/dev/null` on a disk.
-use Rattle.std.proofs.Common.{◌≡◌, refl, ℕ, not, IsTrue, Some, None, [], ◌∷◌, arith}
+use Rattle.std.proofs.Common.{◌≡◌, refl, not, Some, None, [], ◌∷◌, arith}
 use Rattle.std.specs.Str.{bytes_eq}
 use Rattle.fq_files.specs.States.{Keys}
 use Rattle.fq_pair.specs.declared.out.Out.{Out}

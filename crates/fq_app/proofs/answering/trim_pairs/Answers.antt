@@ -1,4 +1,4 @@
-use Rattle.std.proofs.Common.{◌≡◌, ◌≢◌, ◌⊎◌, refl, inl, inr, ap, subst, sym, arith}
+use Rattle.std.proofs.Common.{◌≡◌, ◌≢◌, ◌⊎◌, refl, inl, ap, subst, sym, arith}
 use Rattle.fq_files.specs.States.{FilesState}
 use Rattle.fq_app_files.specs.Faults.{outcome_status}
 use Rattle.fq_app_files.specs.Trimming.{filed, AreInputsTold}

@@ -1,4 +1,4 @@
-use Rattle.std.proofs.Common.{◌∙◌, ℕ, IsTrue, List, sym, ap, subst}
+use Rattle.std.proofs.Common.{◌∙◌, IsTrue, sym, ap, subst}
 use Rattle.std.proofs.lemmas.Result.{err_from_is_err_and}
 use Rattle.fq_files.specs.States.{FilesState}
 use Rattle.fq_files.proofs.StateLemmas.{same_as, told_as}
