@@ -33,6 +33,7 @@ pub record RunIsInStep (c : Choices) (run : Run) : Type 0 where
   pub taken : HaveTaken run.outlets run.outlets_left texts
   pub in_step : AreInStep c.check_names c.steps c.encoding (all_pairs c run).mates run.counts texts
 
+-- so it is after each run that trimmed all pairs
 abbrev pub WholeRunsAreInStep : Type 0
 WholeRunsAreInStep = (c : Choices) (run : Run) → IsTrimmed c run → RunIsInStep c run
 
@@ -64,7 +65,8 @@ abbrev pub BeginsText : Choices → Pairs → Out → List ℕ → Type 0
 BeginsText c all out bytes = (part : List ℕ) →
     IsPrefix part bytes → IsPrefix part (text_of out (texts_of c.steps all.mates))
 
--- so it is with what an outlet has taken, under the same conditions
+-- so it is with what an outlet has taken that tells its bytes and began empty, under the same
+-- conditions
 abbrev pub OutletsBeginTexts : Type 0
 OutletsBeginTexts = (c : Choices) (run : Run) → EveryEnding c run → AreTold run →
     (out : Out) (before after : OutletState) →
