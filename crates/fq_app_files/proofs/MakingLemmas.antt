@@ -105,7 +105,8 @@ next_made a tells start old new this first made = record {
 -- a name that no output has is unchanged
 pub rest_made : (a : Asking) (tells : Keys) (start files : Holding) (n : ℕ) →
     AreMade a tells start n files → KeepsRest a start files
-rest_made a tells start files n made = λ name free. made.kept name (λ out named. absurd (free out named))
+rest_made a tells start files n made =
+    λ name free. made.kept name (λ out named. absurd (free out named))
 
 -- the next output could not be made
 rest_unmade : (a : Asking) (tells : Keys) (start old new : Holding) (this : Out) →
@@ -257,8 +258,8 @@ pub made_before : (a : Asking) (start files : Holding) (n : ℕ) (old new : File
 made_before a start files n old new kept made =
     told_before (λ tells. AreMade a tells start n files) old new kept made
 
-pub unmade_before : (a : Asking) (refusal : Refusal) (start files : Holding) (old new : FilesState) →
-    new ≡ old → StopsMaking a new.tells refusal start files →
+pub unmade_before : (a : Asking) (refusal : Refusal) (start files : Holding)
+    (old new : FilesState) → new ≡ old → StopsMaking a new.tells refusal start files →
     StopsMaking a old.tells refusal start files
 unmade_before a refusal start files old new kept unmade =
     told_before (λ tells. StopsMaking a tells refusal start files) old new kept unmade
