@@ -30,7 +30,8 @@ pub lacks_request : (a : Asking) (files : FilesState) (out err : Device) (status
 lacks_request a files out err status lacks =
     let five = lacks.status_is in
     request_answered a files files out err status
-    (lacks_answer a files files out err status lacks (λ tells. inl (λ out name named told. inl refl))
+    (lacks_answer a files files out err status lacks
+    (λ tells. inl (λ out name named told. inl refl))
     (λ tells name named told. inl (inl refl)) (λ side told none name. refl))
     (λ four. absurd (omega (arith, four, five))) (λ name other unnamed. refl)
     (λ name made told leads. (

@@ -61,7 +61,8 @@ refusal_untrimmed a tells why.Encoding old new left = λ out name named told. in
 refusal_untrimmed a tells (why.Step fault) old new left = λ out name named told. inl (left name)
 refusal_untrimmed a tells (why.Setting bad) old new left = λ out name named told. inl (left name)
 refusal_untrimmed a tells (why.SameName out) old new left = λ o name named told. inl (left name)
-refusal_untrimmed a tells (why.Source side cause) old new left = λ out name named told. inl (left name)
+refusal_untrimmed a tells (why.Source side cause) old new left =
+    λ out name named told. inl (left name)
 refusal_untrimmed a tells (why.Target out cause) old new left =
     ⊎_elim (λ stops. stops_untrimmed a tells out old new stops)
     (λ same out name named told. inl (same name)) left

@@ -35,7 +35,8 @@ this_or_other (Some one) name = ⊎_elim
 -- a name that no output has is unchanged
 pub rest_made : (a : Asking) (tells : Keys) (start files : Holding) (n : ℕ) →
     AreMade a tells start n files → KeepsRest a start files
-rest_made a tells start files n made = λ name free. made.kept name (λ out named. absurd (free out named))
+rest_made a tells start files n made =
+    λ name free. made.kept name (λ out named. absurd (free out named))
 
 -- this is one of the first n outputs, and it has this name
 abbrev pub IsFirst : Asking → ℕ → List ℕ → Out → Type 0

@@ -15,7 +15,8 @@ use Rattle.fq_app_files.proofs.RestLemmas.{rest_of, then_rest}
 -- the file of each output that has a name of its own holds what its outlet has taken
 abbrev pub HoldTaken : Asking → Keys → OutletStates → Holding → Type 0
 HoldTaken a tells outlets files = (out : Out) (name : List ℕ) (outlet : OutletState) →
-    HasOwnName a tells out name → outlet_at out outlets ≡ Some outlet → files name ≡ Some outlet.taken
+    HasOwnName a tells out name → outlet_at out outlets ≡ Some outlet →
+    files name ≡ Some outlet.taken
 
 -- the output at a place
 out_at : ℕ → Out

@@ -28,31 +28,31 @@ found_in None new text failed empty there took = absurd cc
 there_is : (l : Option (List ℕ)) (name : List ℕ) → l ≡ Some name → is_some l ≡ true
 there_is l name e = ap is_some e
 
-module _ (a : Asking) (tells : Keys) (old new : OutletStates) (texts : Out → List ℕ) (failed : Option Out)
-    (files : Holding) where
+module _ (a : Asking) (tells : Keys) (old new : OutletStates) (texts : Out → List ℕ)
+    (failed : Option Out) (files : Holding) where
   -- the file of each output with a name of its own holds the text that its outlet took
   pub texts_held : is_some old.log ≡ is_some a.log → AreEmpty a tells old →
       OutletsTook old new texts failed → HoldTaken a tells new files →
       (out : Out) (name : List ℕ) → HasOwnName a tells out name → files name ≡ Some (texts out)
   texts_held log empty took holds ForwardPaired name own =
       let t = text_in old.forward_paired new.forward_paired (texts ForwardPaired)
-      (failures_at failed ForwardPaired) (empty ForwardPaired name old.forward_paired own.named own.told refl)
-      (took ForwardPaired) in
+      (failures_at failed ForwardPaired)
+      (empty ForwardPaired name old.forward_paired own.named own.told refl) (took ForwardPaired) in
       holds ForwardPaired name new.forward_paired own refl ∙ ap Some t
   texts_held log empty took holds ForwardUnpaired name own =
       let t = text_in old.forward_unpaired new.forward_unpaired (texts ForwardUnpaired)
-      (failures_at failed ForwardUnpaired) (empty ForwardUnpaired name old.forward_unpaired own.named own.told refl)
-      (took ForwardUnpaired) in
+      (failures_at failed ForwardUnpaired)
+      (empty ForwardUnpaired name old.forward_unpaired own.named own.told refl) (took ForwardUnpaired) in
       holds ForwardUnpaired name new.forward_unpaired own refl ∙ ap Some t
   texts_held log empty took holds ReversePaired name own =
       let t = text_in old.reverse_paired new.reverse_paired (texts ReversePaired)
-      (failures_at failed ReversePaired) (empty ReversePaired name old.reverse_paired own.named own.told refl)
-      (took ReversePaired) in
+      (failures_at failed ReversePaired)
+      (empty ReversePaired name old.reverse_paired own.named own.told refl) (took ReversePaired) in
       holds ReversePaired name new.reverse_paired own refl ∙ ap Some t
   texts_held log empty took holds ReverseUnpaired name own =
       let t = text_in old.reverse_unpaired new.reverse_unpaired (texts ReverseUnpaired)
-      (failures_at failed ReverseUnpaired) (empty ReverseUnpaired name old.reverse_unpaired own.named own.told refl)
-      (took ReverseUnpaired) in
+      (failures_at failed ReverseUnpaired)
+      (empty ReverseUnpaired name old.reverse_unpaired own.named own.told refl) (took ReverseUnpaired) in
       holds ReverseUnpaired name new.reverse_unpaired own refl ∙ ap Some t
   texts_held log empty took holds Log name own =
       let t = found_in old.log new.log (texts Log) (failures_at failed Log)

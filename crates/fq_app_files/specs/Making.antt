@@ -27,6 +27,7 @@ pub record StopsMaking (a : Asking) (tells : Keys) (why : Refusal) (start files 
   pub rest : KeepsRest a start files
   pub leaves : RefusalLeaves a tells why start files
 
+-- so it is in files of which these bytes are known
 abbrev pub Made : Asking → Holding → ℕ → FilesState → Type 0
 Made a start n files = AreMade a files.tells start n files.bytes
 

@@ -171,7 +171,8 @@ returns g c =
                 let took = reports.took
                 (opened.ready.report_made.empty name named (told_as at_name _ _ since own)) its
                 name named (told_on at_name own) in
-                let P : Reported → Type 0 = λ r. TookReport r a c.encoding.result account [] took.0 in
+                let P : Reported → Type 0 =
+                λ r. TookReport r a c.encoding.result account [] took.0 in
                 took.1 ∙ ap Some (subst P none took.2);
             failed = λ other. fails_as_told f start choices inputs run left _ _ _
                 ended right refl refl opened.ready.log (sides_in inputs before after left account)

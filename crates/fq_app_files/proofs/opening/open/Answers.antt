@@ -109,8 +109,8 @@ made_before : (a : Asking) (start files : Holding) (n : ℕ) (old new : FilesSta
 made_before a start files n old new kept made =
     told_before (λ tells. AreMade a tells start n files) old new kept made
 
-unmade_before : (a : Asking) (refusal : Refusal) (start files : Holding) (old new : FilesState) →
-    new ≡ old → StopsMaking a new.tells refusal start files →
+unmade_before : (a : Asking) (refusal : Refusal) (start files : Holding)
+    (old new : FilesState) → new ≡ old → StopsMaking a new.tells refusal start files →
     StopsMaking a old.tells refusal start files
 unmade_before a refusal start files old new kept unmade =
     told_before (λ tells. StopsMaking a tells refusal start files) old new kept unmade
