@@ -30,7 +30,8 @@ asks_this words read own a is pairs asked = let some : Some own ≡ Some a = sym
     ∙ asked.ask in cc
 
 -- refused memory has its line, or that of a report
-pub untold_line : (a : Asking) (old new : FilesState) (out err : Device) (status : ℕ) (text : List ℕ) →
+pub untold_line : (a : Asking) (old new : FilesState) (out err : Device) (status : ℕ)
+    (text : List ℕ) →
     status ≡ 5 → (text ≡ memory_line) ⊎ (text ≡ report_memory_line a) → TookText err text
     → (AreInputsTold (filed old a).inputs old.tells →
     AreLeft (filed old a) old.tells old.bytes new.bytes)

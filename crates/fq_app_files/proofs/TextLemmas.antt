@@ -42,7 +42,8 @@ module _ (a : Asking) (tells : Keys) (old new : OutletStates) (texts : Out → L
   texts_held log empty took holds ForwardUnpaired name own =
       let t = text_in old.forward_unpaired new.forward_unpaired (texts ForwardUnpaired)
       (failures_at failed ForwardUnpaired)
-      (empty ForwardUnpaired name old.forward_unpaired own.named own.told refl) (took ForwardUnpaired) in
+      (empty ForwardUnpaired name old.forward_unpaired own.named own.told refl)
+      (took ForwardUnpaired) in
       holds ForwardUnpaired name new.forward_unpaired own refl ∙ ap Some t
   texts_held log empty took holds ReversePaired name own =
       let t = text_in old.reverse_paired new.reverse_paired (texts ReversePaired)
@@ -52,7 +53,8 @@ module _ (a : Asking) (tells : Keys) (old new : OutletStates) (texts : Out → L
   texts_held log empty took holds ReverseUnpaired name own =
       let t = text_in old.reverse_unpaired new.reverse_unpaired (texts ReverseUnpaired)
       (failures_at failed ReverseUnpaired)
-      (empty ReverseUnpaired name old.reverse_unpaired own.named own.told refl) (took ReverseUnpaired) in
+      (empty ReverseUnpaired name old.reverse_unpaired own.named own.told refl)
+      (took ReverseUnpaired) in
       holds ReverseUnpaired name new.reverse_unpaired own refl ∙ ap Some t
   texts_held log empty took holds Log name own =
       let t = found_in old.log new.log (texts Log) (failures_at failed Log)
