@@ -7,9 +7,9 @@
 //!
 //! Promised is what the bytes of a file are after each call, if the proof knows them, as it knows
 //! those in memory, and those of each regular file of every disk that tells, whatever else is on
-//! it. Several names may lead to one file. No call for a file changes the bytes of another one, also
-//! if it is a pipe. A file is refused only for a cause for which it may be, and an error is one that
-//! a device of it may have. That the calls of the system do what [`Disk`] says is tested.
+//! it. Several names may lead to one file. No call for a file, such as a pipe, changes the bytes of
+//! another one. A file is refused only for a cause for which it may be, and an error is one that a
+//! device of it may have. That the calls of the system do what [`Disk`] says is tested.
 #![tactic(auto)]
 
 mod device;

@@ -103,6 +103,7 @@ shifted_at_most zero most ys small k = small k
 shifted_at_most (suc at) most ys small zero = let least : 0 ≤ most = omega arith in least
 shifted_at_most (suc at) most ys small (suc k) = shifted_at_most at most ys small k
 
+-- a row that begins so many places further on is longer by as many
 pub length-shifted : (at : ℕ) (ys : List ℕ) → length (replicate at 0 ++ ys) ≡ at + length ys
 length-shifted at ys = grind (arith, common_steps, length-append, length-replicate)
 
